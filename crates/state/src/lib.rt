@@ -1,0 +1,1 @@
+// Definitions and their laws: what every call of document 01 means. No code.

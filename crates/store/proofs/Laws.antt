@@ -1,0 +1,54 @@
+-- A table by its name is the part of the buffer where it lies.
+use mathlib.Core.Path.{_≡_, refl, sym, _∙_, ap, subst}
+use mathlib.Core.List.{List}
+use Prim.Native.Nat.{ℕ, _+_, _*_, _≤_, _<_}
+use native.Mathlib.Omega.{arith}
+use lib.ListN.{length, getD}
+use Rattle.lists.specs.Table.{Room}
+use Rattle.lists.specs.Rules.{none}
+use Rattle.frame.specs.Part.{part, Put}
+use Rattle.frame.proofs.Laws.{length-part}
+use Rattle.kinds.specs.declared.Sizes.{Sizes}
+use Rattle.tables.specs.declared.Table.{Table}
+use Rattle.tables.specs.Layout.{Tables, tables, total, tableAt, tableLong, tableOf, room, listRoom, chain-in}
+use Rattle.tables.proofs.Puts.{inside, part-is, chain-long}
+
+module _ (Z : Sizes) (k : Table) (t : List ℕ) {a n : ℕ} (p : a ≡ tableAt Z k) (q : n ≡ tableLong Z k) where
+  pub fits : length t ≡ total Z → a + n ≤ length t
+  fits l = let i = inside Z k in omega arith
+
+  pub part-at : part t a n ≡ tableOf k (tables Z t)
+  part-at = rw (p, q) (part-is Z k t)
+
+  pub get-at : (j : ℕ) → getD (part t a n) j 0 ≡ getD (tableOf k (tables Z t)) j 0
+  get-at j = ap (λ (x : List ℕ). getD x j 0) part-at
+
+  pub home-at : (e : ℕ) → getD (part t a n) (4 * e) 0 ≡ chain-in Z k (tables Z t) .home e
+  home-at e = get-at (4 * e) ∙ (let q : 4 * e ≡ 0 + 4 * e = omega arith in ap (λ (x : ℕ). getD (tableOf k (tables Z t)) x 0) q)
+
+  -- what a function f of the part was put in its place
+  pub put-at : (f : List ℕ → List ℕ) {t′ : List ℕ} → Put a n t t′ (f (part t a n)) → Put (tableAt Z k) (tableLong Z k) t t′ (f (tableOf k (tables Z t)))
+  put-at f {t′} P =
+      subst (λ (x : List ℕ). Put (tableAt Z k) (tableLong Z k) t t′ (f x)) part-at
+      (subst (λ (x : ℕ). Put x (tableLong Z k) t t′ (f (part t a n))) p (subst (λ (x : ℕ). Put a x t t′ (f (part t a n))) q P))
+
+  module _ {b : ℕ} (r : b ≡ 4 * room Z k) where
+    -- the words of list i
+    pub count-in : (i : ℕ) → i < listRoom Z k → b + 2 * i + 1 < n
+    count-in i h = let l = chain-long Z k in omega arith
+
+    pub count-at : (i : ℕ) → getD (part t a n) (b + 2 * i) 0 ≡ chain-in Z k (tables Z t) .count i
+    count-at i = get-at (b + 2 * i) ∙ ap (λ (x : ℕ). getD (tableOf k (tables Z t)) (x + 2 * i) 0) r
+
+    pub last-at : (i : ℕ) → getD (part t a n) (b + 2 * i + 1) 0 ≡ chain-in Z k (tables Z t) .last i
+    last-at i = get-at (b + 2 * i + 1) ∙ ap (λ (x : ℕ). getD (tableOf k (tables Z t)) (x + 2 * i + 1) 0) r
+
+    pub roomy : length t ≡ total Z → (e m : ℕ) → e ≤ room Z k → m ≤ listRoom Z k → e ≤ none → m ≤ none → Room (part t a n) 0 b e m
+    roomy l e m el ml es ms =
+        let c = chain-long Z k in
+        let x = length-part t a n (fits l) in
+        record { elems-below = omega arith; lists-below = omega arith; n-small = es; m-small = ms }
+
+-- the words of element e
+pub home-in : (Z : Sizes) (k : Table) (e : ℕ) → e < room Z k → 4 * e < tableLong Z k
+home-in Z k e h = let l = chain-long Z k in omega arith

@@ -1,2 +1,7 @@
 -- Laws of the tables.
 pub mod Puts
+pub mod Tab
+pub mod More
+pub mod Behind
+pub mod Chains
+pub mod Frame

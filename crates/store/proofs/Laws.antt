@@ -3,7 +3,7 @@ use mathlib.Core.Path.{_≡_, refl, sym, _∙_, ap, subst}
 use mathlib.Core.List.{List}
 use Prim.Native.Nat.{ℕ, _+_, _*_, _≤_, _<_}
 use native.Mathlib.Omega.{arith}
-use lib.ListN.{length, getD}
+use lib.ListN.{length, getD, set}
 use Rattle.lists.specs.Table.{Room}
 use Rattle.lists.specs.Rules.{none}
 use Rattle.frame.specs.Part.{part, Put}
@@ -52,3 +52,13 @@ module _ (Z : Sizes) (k : Table) (t : List ℕ) {a n : ℕ} (p : a ≡ tableAt Z
 -- the words of element e
 pub home-in : (Z : Sizes) (k : Table) (e : ℕ) → e < room Z k → 4 * e < tableLong Z k
 home-in Z k e h = let l = chain-long Z k in omega arith
+
+-- one more store into a table into which others went
+pub then-set : (Z : Sizes) (k : Table) (j v : ℕ) {t t1 t2 ys : List ℕ} → Put (tableAt Z k) (tableLong Z k) t t1 ys
+    → Put (tableAt Z k) (tableLong Z k) t1 t2 (set (tableOf k (tables Z t1)) j v) → Put (tableAt Z k) (tableLong Z k) t t2 (set ys j v)
+then-set Z k j v {t} {t1} {t2} {ys} P Q =
+    record {
+      same-length = Q .same-length ∙ P .same-length;
+      here = Q .here ∙ ap (λ (x : List ℕ). set x j v) (sym (part-is Z k t1) ∙ P .here);
+      apart = λ b i l o. Q .apart b i (rw (P .same-length) l) o ∙ P .apart b i l o;
+    }

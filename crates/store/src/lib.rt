@@ -1,4 +1,5 @@
 ghost use mathlib.Core.Path.{_≡_};
+ghost use mathlib.Core.List.{[], _∷_};
 ghost use Prim.Native.Nat.{ℕ, _+_, _*_, _<_, _≤_};
 ghost use lib.ListN.{length, getD, set};
 ghost use Rattle.lists.specs.Rules.{Is};
@@ -115,6 +116,55 @@ pub fn set(t: &mut [u32], z: Sizes, k: Table, j: usize, v: u32)
     let a = table_at(z, k);
     let n = table_long(z, k);
     frame::set_in(t, a, n, j, v);
+}
+
+// Two to five words from j on.
+pub fn set2(t: &mut [u32], z: Sizes, k: Table, j: usize, v0: u32, v1: u32)
+    requires { ⌜ (length (now t) ≡ total z) × (j + 2 ≤ tableLong z k) ⌝ }
+    ensures { λ _. ⌜ Put (tableAt z k) (tableLong z k) (now (t .entry)) (now (t .exit)) (writes (tableOf k (tables z (now (t .entry)))) ((j, v0) ∷ (j + 1, v1) ∷ [])) ⌝ }
+{
+    set(t, z, k, j, v0);
+    set(t, z, k, j + 1, v1);
+}
+
+pub fn set3(t: &mut [u32], z: Sizes, k: Table, j: usize, v0: u32, v1: u32, v2: u32)
+    requires { ⌜ (length (now t) ≡ total z) × (j + 3 ≤ tableLong z k) ⌝ }
+    ensures { λ _. ⌜ Put (tableAt z k) (tableLong z k) (now (t .entry)) (now (t .exit)) (writes (tableOf k (tables z (now (t .entry)))) ((j, v0) ∷ (j + 1, v1) ∷ (j + 2, v2) ∷ [])) ⌝ }
+{
+    set(t, z, k, j, v0);
+    set(t, z, k, j + 1, v1);
+    set(t, z, k, j + 2, v2);
+}
+
+pub fn set4(t: &mut [u32], z: Sizes, k: Table, j: usize, v0: u32, v1: u32, v2: u32, v3: u32)
+    requires { ⌜ (length (now t) ≡ total z) × (j + 4 ≤ tableLong z k) ⌝ }
+    ensures { λ _. ⌜ Put (tableAt z k) (tableLong z k) (now (t .entry)) (now (t .exit)) (writes (tableOf k (tables z (now (t .entry)))) ((j, v0) ∷ (j + 1, v1) ∷ (j + 2, v2) ∷ (j + 3, v3) ∷ [])) ⌝ }
+{
+    set(t, z, k, j, v0);
+    set(t, z, k, j + 1, v1);
+    set(t, z, k, j + 2, v2);
+    set(t, z, k, j + 3, v3);
+}
+
+pub fn set5(
+    t: &mut [u32],
+    z: Sizes,
+    k: Table,
+    j: usize,
+    v0: u32,
+    v1: u32,
+    v2: u32,
+    v3: u32,
+    v4: u32,
+)
+    requires { ⌜ (length (now t) ≡ total z) × (j + 5 ≤ tableLong z k) ⌝ }
+    ensures { λ _. ⌜ Put (tableAt z k) (tableLong z k) (now (t .entry)) (now (t .exit)) (writes (tableOf k (tables z (now (t .entry)))) ((j, v0) ∷ (j + 1, v1) ∷ (j + 2, v2) ∷ (j + 3, v3) ∷ (j + 4, v4) ∷ [])) ⌝ }
+{
+    set(t, z, k, j, v0);
+    set(t, z, k, j + 1, v1);
+    set(t, z, k, j + 2, v2);
+    set(t, z, k, j + 3, v3);
+    set(t, z, k, j + 4, v4);
 }
 
 // ---- chain tables: an element's home, a list's count and its last element

@@ -14,6 +14,7 @@ use Rattle.lists.proofs.Words.{next-other, length-pushed, push-view, push-wf, p
 use Rattle.lists.proofs.Push.{Pushed}
 use Rattle.lists.proofs.WordsRemove.{remove-kept}
 use Rattle.lists.proofs.WordsRemove as words
+use Rattle.tables.specs.Layout.{elemWords, listWords}
 use Rattle.tables.specs.Does.{ChainKept}
 use Rattle.tables.proofs.More.{Agrees, rules-more, list-same}
 use Rattle.tables.proofs.Behind.{remove-behind}
@@ -36,15 +37,8 @@ pub record Grown (N n m n′ m′ : ℕ) (x y : List ℕ) : Type 0 where
   pub kept : ChainKept N n′ m′ x y
   pub long : length y ≡ length x
 
--- the words of an element in no list, and of a list of no element
-abbrev pub elemWords : ℕ → List (ℕ × ℕ)
-elemWords j = (j, none) ∷ (j + 1, none) ∷ (j + 2, none) ∷ (j + 3, none) ∷ []
-
-abbrev pub listWords : ℕ → List (ℕ × ℕ)
-listWords j = (j, 0) ∷ (j + 1, none) ∷ []
-
 -- ---- one more element
-module _ (N n m : ℕ) (x : List ℕ) (w : Wf x 0 (4 * N) n m) (l : n < N) (s : N ≤ none) where
+module _ (N n m : ℕ) (x : List ℕ) (w : Wf x 0 (4 * N) n m) (l : n < N) (s : n < none) where
   abbrev ws : List (ℕ × ℕ)
   ws = elemWords (4 * n)
 
@@ -113,7 +107,7 @@ module _ (N n m : ℕ) (x : List ℕ) (w : Wf x 0 (4 * N) n m) (l : n < N) (s : 
   elem-home = blank n (omega arith) (omega arith) .home-none
 
 -- ---- one more list
-module _ (N n m M : ℕ) (x : List ℕ) (w : Wf x 0 (4 * N) n m) (l : m < M) (s : M ≤ none) (lx : length x ≡ 4 * N + 2 * M) where
+module _ (N n m M : ℕ) (x : List ℕ) (w : Wf x 0 (4 * N) n m) (l : m < M) (s : m < none) (lx : length x ≡ 4 * N + 2 * M) where
   abbrev vs : List (ℕ × ℕ)
   vs = listWords (4 * N + 2 * m)
 

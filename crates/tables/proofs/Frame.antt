@@ -10,18 +10,25 @@ use Rattle.tables.specs.Layout.{Tables, tables, total, Extents, extents,
 use Rattle.tables.specs.Decode.{decode, worldOf}
 use Rattle.tables.specs.Sound.{Good, Sound}
 use Rattle.tables.specs.Does.{RowsKept, ChainKept, Kept}
+use Rattle.tables.specs.Larger.{Larger}
 use Rattle.tables.proofs.Chains.{chain-refl, chain-then}
-
--- no extent of Y is below that of X
-pub record Larger (X Y : Extents) : Type 0 where
-  pub slots : X .slots ≤ Y .slots
-  pub islands : X .islands ≤ Y .islands
-  pub edges : X .edges ≤ Y .edges
-  pub joints : X .joints ≤ Y .joints
-  pub journal : X .journal ≤ Y .journal
 
 pub larger-refl : (X : Extents) → Larger X X
 larger-refl X = record { slots = omega arith; islands = omega arith; edges = omega arith; joints = omega arith; journal = omega arith }
+
+pub larger-then : {X Y W : Extents} → Larger X Y → Larger Y W → Larger X W
+larger-then A B =
+    let a = A .slots in
+    let b = A .islands in
+    let c = A .edges in
+    let d = A .joints in
+    let e = A .journal in
+    let f = B .slots in
+    let g = B .islands in
+    let h = B .edges in
+    let i = B .joints in
+    let j = B .journal in
+    record { slots = omega arith; islands = omega arith; edges = omega arith; joints = omega arith; journal = omega arith }
 
 pub kept-refl : {Z : Sizes} {X : Extents} {T : Tables} → Kept Z X T T
 kept-refl =

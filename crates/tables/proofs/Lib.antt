@@ -5,3 +5,6 @@ pub mod More
 pub mod Behind
 pub mod Chains
 pub mod Frame
+pub mod Unique
+pub mod Careful
+pub mod Proper

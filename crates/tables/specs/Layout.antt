@@ -8,7 +8,7 @@
 use mathlib.Core.List.{List, [], _∷_}
 use Prim.Native.Nat.{ℕ, _+_, _*_}
 use lib.ListN.{length, getD}
-use Rattle.lists.specs.Rules.{View}
+use Rattle.lists.specs.Rules.{none, View}
 use Rattle.lists.specs.Table.{view}
 use Rattle.frame.specs.Part.{part}
 use Rattle.kinds.specs.declared.Sizes.{Sizes}
@@ -417,6 +417,13 @@ module _ (Z : Sizes) (T : Tables) where
 
   abbrev pub scan-in : View
   scan-in = view (T .scan) 0 (4 * Z .islands)
+
+-- the words of an element in no list, of a list of no element
+abbrev pub elemWords : ℕ → List (ℕ × ℕ)
+elemWords j = (j, none) ∷ (j + 1, none) ∷ (j + 2, none) ∷ (j + 3, none) ∷ []
+
+abbrev pub listWords : ℕ → List (ℕ × ℕ)
+listWords j = (j, 0) ∷ (j + 1, none) ∷ []
 
 -- ---- a table by its name
 

@@ -4,3 +4,5 @@ pub mod Decode
 pub mod Rule
 pub mod Sound
 pub mod Does
+pub mod Larger
+pub mod Proper

@@ -1,0 +1,2 @@
+-- Definitions that the contracts cite: the steps that the calls are made of.
+pub mod Steps

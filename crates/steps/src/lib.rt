@@ -1,0 +1,1 @@
+// The steps that the calls are made of, and their laws. No code.

@@ -1,0 +1,24 @@
+-- `whole::sound` meets its contract. The five extents are read, where the length is right. Assumes nothing.
+use native.Mathlib.Omega.{arith}
+use Rattle.audit.proofs.Laws.{is-no}
+use borrow.Author.Needs.{needs}
+use Rattle.whole.proofs.sound.Statement.{statement}
+use Rattle.whole.proofs.sound.Tie as tie
+
+returns : tie.Need-returns
+returns c =
+    is-no (λ s. let l = s .long in omega arith)
+
+pub sound-spec : {M : Type 1} → statement M
+sound-spec =
+    tie.close
+    (tie.spec
+    (λ c κs. search needs)
+    returns
+    (λ c κs. search needs)
+    (λ c κs. search needs)
+    (λ c κs. search needs)
+    (λ c κs. search needs)
+    (λ c κs. search needs)
+    (λ c κs. search needs)
+    (λ c. search needs))

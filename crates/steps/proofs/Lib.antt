@@ -5,3 +5,4 @@ pub mod Slot
 pub mod GrowSlot
 pub mod Names
 pub mod Put
+pub mod Reset

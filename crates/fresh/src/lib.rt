@@ -1,6 +1,5 @@
 ghost use Prim.Native.Nat.{_≤_};
 ghost use Rattle.tables.specs.Does.{Reset};
-
 use kinds::Answer;
 use kinds::NONE;
 use kinds::Sizes;

@@ -1,2 +1,4 @@
 -- Definitions that the contracts cite: the steps that the calls are made of.
 pub mod Steps
+pub mod Leaves
+pub mod Drops

@@ -1,0 +1,34 @@
+-- A call from its audit's answer.
+use mathlib.Core.Path.{_≡_, refl, sym, _∙_}
+use mathlib.Core.Logic.{inl, inr}
+use mathlib.Core.Bool.{Bool, true, false, not, false≢true}
+use mathlib.Core.List.{List}
+use Prim.Native.Nat.{ℕ}
+use borrow.Author.Tests.{not-true, not-false}
+use Rattle.lists.specs.Rules.{Is}
+use Rattle.kinds.specs.declared.Sizes.{Sizes}
+use Rattle.kinds.specs.declared.Answer.{Answer}
+use Rattle.kinds.specs.declared.Answer.the-variants.{BadTables}
+use Rattle.state.specs.World.{World, Step}
+use Rattle.tables.specs.Decode.{worldOf}
+use Rattle.tables.specs.Sound.{Sound}
+use Rattle.tables.specs.Does.{Does, Call, Asks}
+
+-- the audit said yes
+pub sound-is : (Z : Sizes) (t : List ℕ) (b : Bool) → Is b (Sound Z t) → not b ≡ false → Sound Z t
+sound-is Z t b a e = a .0 (not-false b e)
+
+unsound-is : (Z : Sizes) (t : List ℕ) (b : Bool) → Is b (Sound Z t) → not b ≡ true → Sound Z t → ⊥
+unsound-is Z t b a e S = false≢true (sym (not-true b e) ∙ a .1 S)
+
+pub call-no : (Z : Sizes) (f : World → Step) (t : List ℕ) (b : Bool) → Is b (Sound Z t) → not b ≡ true → Call Z f t BadTables t
+call-no Z f t b a e = inr (record { unsound = unsound-is Z t b a e; nine = refl; same = refl })
+
+pub call-yes : (Z : Sizes) (f : World → Step) (t : List ℕ) (b : Bool) {r : Answer} {t′ : List ℕ} → Is b (Sound Z t) → not b ≡ false → Does Z f t r t′ → Call Z f t r t′
+call-yes Z f t b a e D = inl (sound-is Z t b a e, D)
+
+pub asks-no : {A : Type 0} (Z : Sizes) (f : World → A) (n : A) (t : List ℕ) (b : Bool) → Is b (Sound Z t) → not b ≡ true → Asks Z f n t n
+asks-no Z f n t b a e = inr (unsound-is Z t b a e, refl)
+
+pub asks-yes : {A : Type 0} (Z : Sizes) (f : World → A) (n : A) (t : List ℕ) (b : Bool) {r : A} → Is b (Sound Z t) → not b ≡ false → r ≡ f (worldOf Z t) → Asks Z f n t r
+asks-yes Z f n t b a e q = inl (sound-is Z t b a e, q)

@@ -1,0 +1,47 @@
+ghost use mathlib.Core.Path.{_≡_};
+ghost use Prim.Native.Nat.{_≤_};
+ghost use Rattle.kinds.specs.Number.{rig};
+ghost use Rattle.state.specs.Bodies.{put as putStep, flags as flagsStep};
+ghost use Rattle.state.specs.Membership.{ensure as ensureStep};
+ghost use Rattle.tables.specs.Does.{Call, Reset};
+ghost use Rattle.steps.specs.Steps.{handle};
+use kinds::Answer;
+use kinds::Handle;
+use kinds::Sizes;
+
+pub mod sized;
+
+// ---- the rig's calls
+
+pub fn reset(t: &mut [u32]) -> Answer
+    ensures { λ r. ⌜ Reset rig (now (t .entry)) r (now (t .exit)) ⌝ }
+{
+    fresh::reset_of(t, Sizes::RIG)
+}
+
+pub fn put(t: &mut [u32], h: Handle, fixed: bool, enabled: bool, sleeping: bool) -> Answer
+    ensures { λ r. ⌜ Call rig (putStep rig (handle (h .slot .0) (h .generation)) fixed enabled sleeping) (now (t .entry)) r (now (t .exit)) ⌝ }
+{
+    let slot = h.slot;
+    let s = slot.0;
+    let g = h.generation;
+    sized::put(t, Sizes::RIG, s, g, fixed, enabled, sleeping)
+}
+
+pub fn flags(t: &mut [u32], h: Handle, fixed: bool, enabled: bool, sleeping: bool) -> Answer
+    ensures { λ r. ⌜ Call rig (flagsStep (handle (h .slot .0) (h .generation)) fixed enabled sleeping) (now (t .entry)) r (now (t .exit)) ⌝ }
+{
+    let slot = h.slot;
+    let s = slot.0;
+    let g = h.generation;
+    sized::flags(t, Sizes::RIG, s, g, fixed, enabled, sleeping)
+}
+
+pub fn ensure(t: &mut [u32], h: Handle) -> Answer
+    ensures { λ r. ⌜ Call rig (ensureStep (handle (h .slot .0) (h .generation))) (now (t .entry)) r (now (t .exit)) ⌝ }
+{
+    let slot = h.slot;
+    let s = slot.0;
+    let g = h.generation;
+    sized::ensure(t, Sizes::RIG, s, g)
+}

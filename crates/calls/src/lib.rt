@@ -1,12 +1,14 @@
 ghost use mathlib.Core.Path.{_≡_};
 ghost use Prim.Native.Nat.{_≤_};
 ghost use Rattle.kinds.specs.Number.{rig};
-ghost use Rattle.state.specs.Bodies.{put as putStep, flags as flagsStep};
-ghost use Rattle.state.specs.Membership.{ensure as ensureStep};
-ghost use Rattle.tables.specs.Does.{Call, Reset};
+ghost use Rattle.state.specs.Bodies.{put as putStep, flags as flagsStep, retire as retireStep, island as islandOf};
+ghost use Rattle.state.specs.Membership.{ensure as ensureStep, remove as removeStep};
+ghost use Rattle.tables.specs.Does.{Call, Asks, Reset};
+ghost use Rattle.calls.specs.Refusal.{noIsland};
 ghost use Rattle.steps.specs.Steps.{handle};
 use kinds::Answer;
 use kinds::Handle;
+use kinds::IslandAnswer;
 use kinds::Sizes;
 
 pub mod sized;
@@ -44,4 +46,32 @@ pub fn ensure(t: &mut [u32], h: Handle) -> Answer
     let s = slot.0;
     let g = h.generation;
     sized::ensure(t, Sizes::RIG, s, g)
+}
+
+pub fn remove(t: &mut [u32], h: Handle) -> Answer
+    ensures { λ r. ⌜ Call rig (removeStep (handle (h .slot .0) (h .generation))) (now (t .entry)) r (now (t .exit)) ⌝ }
+{
+    let slot = h.slot;
+    let s = slot.0;
+    let g = h.generation;
+    sized::remove(t, Sizes::RIG, s, g)
+}
+
+pub fn retire(t: &mut [u32], h: Handle) -> Answer
+    ensures { λ r. ⌜ Call rig (retireStep (handle (h .slot .0) (h .generation))) (now (t .entry)) r (now (t .exit)) ⌝ }
+{
+    let slot = h.slot;
+    let s = slot.0;
+    let g = h.generation;
+    sized::retire(t, Sizes::RIG, s, g)
+}
+
+// A body's island: its number, or 4294967295 for none and with any other answer than Done.
+pub fn island(t: &[u32], h: Handle) -> IslandAnswer
+    ensures { λ r. ⌜ Asks rig (islandOf (handle (h .slot .0) (h .generation))) noIsland (now (t .entry)) r ⌝ }
+{
+    let slot = h.slot;
+    let s = slot.0;
+    let g = h.generation;
+    sized::island(t, Sizes::RIG, s, g)
 }

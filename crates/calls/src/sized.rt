@@ -1,10 +1,14 @@
 // The calls at any sizes, on any words: the audit, and then the step on sound tables.
 ghost use mathlib.Core.Path.{_≡_};
-ghost use Rattle.state.specs.Bodies.{put as putStep, flags as flagsStep};
-ghost use Rattle.state.specs.Membership.{ensure as ensureStep};
-ghost use Rattle.tables.specs.Does.{Call};
+ghost use Rattle.state.specs.Bodies.{put as putStep, flags as flagsStep, retire as retireStep, island as islandOf};
+ghost use Rattle.state.specs.Membership.{ensure as ensureStep, remove as removeStep};
+ghost use Rattle.tables.specs.Does.{Call, Asks};
+ghost use Rattle.calls.specs.Refusal.{noIsland};
 ghost use Rattle.steps.specs.Steps.{handle};
 use kinds::Answer;
+use kinds::Island;
+use kinds::IslandAnswer;
+use kinds::NONE;
 use kinds::Sizes;
 
 pub fn put(
@@ -48,4 +52,34 @@ pub fn ensure(t: &mut [u32], z: Sizes, s: u32, g: u32) -> Answer
         return Answer::BadTables;
     }
     isles::ensure_on(t, z, s, g)
+}
+
+pub fn remove(t: &mut [u32], z: Sizes, s: u32, g: u32) -> Answer
+    ensures { λ r. ⌜ Call z (removeStep (handle s g)) (now (t .entry)) r (now (t .exit)) ⌝ }
+{
+    if !whole::sound(t, z) {
+        return Answer::BadTables;
+    }
+    leaves::remove_on(t, z, s, g)
+}
+
+pub fn retire(t: &mut [u32], z: Sizes, s: u32, g: u32) -> Answer
+    ensures { λ r. ⌜ Call z (retireStep (handle s g)) (now (t .entry)) r (now (t .exit)) ⌝ }
+{
+    if !whole::sound(t, z) {
+        return Answer::BadTables;
+    }
+    leaves::retire_on(t, z, s, g)
+}
+
+pub fn island(t: &[u32], z: Sizes, s: u32, g: u32) -> IslandAnswer
+    ensures { λ r. ⌜ Asks z (islandOf (handle s g)) noIsland (now (t .entry)) r ⌝ }
+{
+    if !whole::sound(t, z) {
+        return IslandAnswer {
+            answer: Answer::BadTables,
+            island: Island(NONE),
+        };
+    }
+    leaves::island_on(t, z, s, g)
 }

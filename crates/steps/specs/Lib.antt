@@ -2,3 +2,4 @@
 pub mod Steps
 pub mod Leaves
 pub mod Drops
+pub mod Linking

@@ -1,0 +1,104 @@
+// One line of a script: the call that it names, and the line that answers it.
+use cells::word;
+use command::Command;
+use dump::dump;
+use kinds::Answer;
+use kinds::IslandAnswer;
+
+// What a line is answered by.
+pub enum Reply {
+    // Nothing, for an empty line or a comment.
+    Silent,
+    BadLine,
+    NotYet,
+    Answer(Answer),
+    Island(IslandAnswer),
+    // May this island bid?
+    Bid(Answer, bool),
+    // As many numbers, the first of the lent list.
+    List(Answer, u32),
+    Dump,
+}
+
+// Answers the line `line`, which is the `number`th. `list` takes the line's numbers.
+pub fn answer_line(
+    t: &mut [u32],
+    list: &mut [u32],
+    line: &[u8],
+    number: u64,
+    out: &mut [u8],
+    used: usize,
+) -> usize {
+    let command = command::parse(line, list);
+    let reply = call(t, command);
+    write_reply(t, list, out, used, number, reply)
+}
+
+// Makes the call that a line asks for. The calls that are still to come are not made yet.
+fn call(t: &mut [u32], command: Command) -> Reply {
+    match command {
+        Command::Blank => Reply::Silent,
+        Command::Bad => Reply::BadLine,
+        Command::Reset => Reply::Answer(calls::reset(t)),
+        Command::Put(h, f) => Reply::Answer(calls::put(t, h, f.fixed, f.enabled, f.sleeping)),
+        Command::Retire(h) => Reply::Answer(calls::retire(t, h)),
+        Command::Flags(h, f) => Reply::Answer(calls::flags(t, h, f.fixed, f.enabled, f.sleeping)),
+        Command::Island(h) => Reply::Island(calls::island(t, h)),
+        Command::Ensure(h) => Reply::Answer(calls::ensure(t, h)),
+        Command::Remove(h) => Reply::Answer(calls::remove(t, h)),
+        Command::Dump => Reply::Dump,
+        _ => Reply::NotYet,
+    }
+}
+
+fn write_reply(
+    t: &[u32],
+    list: &[u32],
+    out: &mut [u8],
+    used: usize,
+    number: u64,
+    reply: Reply,
+) -> usize {
+    match reply {
+        Reply::Silent => used,
+        Reply::BadLine => write_bad_line(out, used, number),
+        Reply::NotYet => text::line(out, used, b"not yet ", number),
+        Reply::Answer(a) => text::line(out, used, b"", a.number() as u64),
+        Reply::Island(a) => write_island(out, used, a),
+        Reply::Bid(a, bids) => write_bid(out, used, a, bids),
+        Reply::List(a, n) => write_list(list, out, used, a, n),
+        Reply::Dump => dump(t, out, used),
+    }
+}
+
+pub fn write_bad_line(out: &mut [u8], used: usize, number: u64) -> usize {
+    text::line(out, used, b"bad line ", number)
+}
+
+fn write_island(out: &mut [u8], used: usize, a: IslandAnswer) -> usize {
+    let answer = a.answer;
+    let island = a.island;
+    let used = text::small(out, used, answer.number());
+    text::line(out, used, b" ", island.0 as u64)
+}
+
+fn write_bid(out: &mut [u8], used: usize, a: Answer, bids: bool) -> usize {
+    let used = text::small(out, used, a.number());
+    if bids {
+        return text::bytes(out, used, b" 1\n");
+    }
+    text::bytes(out, used, b" 0\n")
+}
+
+// The answer, the list's length, and the list.
+fn write_list(list: &[u32], out: &mut [u8], used: usize, a: Answer, n: u32) -> usize {
+    let used = text::small(out, used, a.number());
+    let mut used = text::labelled(out, used, b" ", n);
+    let mut i: u32 = 0;
+    // One turn for each number of the list.
+    while i < n {
+        used = text::labelled(out, used, b" ", word(list, i as usize));
+        i += 1;
+    }
+    text::byte(out, used, b'\n')
+}

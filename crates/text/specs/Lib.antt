@@ -1,0 +1,3 @@
+-- Definitions that the contracts cite.
+pub mod Added
+pub mod Number

@@ -31,7 +31,8 @@ def main():
             continue
         stdin += f"# {path.split('/')[-2]}/{path.split('/')[-1]}\n" + script
         stdout += answer
-    open("crates/lesson/stdin", "w").write(stdin)
+    # a last line without a newline counts
+    open("crates/lesson/stdin", "w").write(stdin.rstrip("\n"))
     open("crates/lesson/stdout", "w").write(stdout)
     print(len(stdin.split("\n")), "lines")
 

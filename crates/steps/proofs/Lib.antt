@@ -16,3 +16,6 @@ pub mod Isle
 pub mod GrowIsland
 pub mod Leave
 pub mod Found
+pub mod Row
+pub mod Resolve
+pub mod Link

@@ -3,3 +3,4 @@ pub mod Steps
 pub mod Leaves
 pub mod Drops
 pub mod Linking
+pub mod Resolving

@@ -4,7 +4,6 @@ ghost use Rattle.state.specs.Resolver.{resolve-removals};
 ghost use Rattle.tables.specs.Sound.{Sound};
 ghost use Rattle.tables.specs.Does.{Does};
 ghost use Rattle.steps.specs.Resolving.{entryOf, Counted};
-
 use kinds::Answer;
 use kinds::NONE;
 use kinds::Sizes;

@@ -19,3 +19,4 @@ pub mod Found
 pub mod Row
 pub mod Resolve
 pub mod Link
+pub mod Chaining

@@ -4,3 +4,4 @@ pub mod Leaves
 pub mod Drops
 pub mod Linking
 pub mod Resolving
+pub mod Chaining

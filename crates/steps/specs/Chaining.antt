@@ -1,0 +1,40 @@
+-- The lent list of a chain refresh, and what its loops do.
+use mathlib.Core.Path.{_≡_}
+use mathlib.Core.List.{List, [], _∷_}
+use Prim.Native.Nat.{ℕ, zero, suc, _+_, _*_, _≤_}
+use lib.ListN.{length}
+use Rattle.kinds.specs.declared.Sizes.{Sizes}
+use Rattle.kinds.specs.declared.Answer.{Answer}
+use Rattle.state.specs.World.{Handle, World, Step, done}
+use Rattle.state.specs.Chain.{linked, linkedAll}
+use Rattle.lists.specs.Table.{pick}
+use mathlib.Core.Bool.{Bool}
+use Rattle.tables.specs.Layout.{tables, extents}
+use Rattle.tables.specs.Decode.{handleAt, worldOf}
+use Rattle.tables.specs.Sound.{Sound}
+use Rattle.tables.specs.Does.{Kept}
+use Rattle.tables.specs.Larger.{Larger}
+
+-- m handles, two words each, from the k-th on
+unfoldable pub handlesFrom : List ℕ → ℕ → ℕ → List Handle
+handlesFrom x k zero = []
+handlesFrom x k (suc m) = handleAt x (2 * k) ∷ handlesFrom x (k + 1) m
+
+-- u follows on w: the same bodies, and no less of anything
+pub record Onward (w u : World) : Type 0 where
+  pub bodies : u .bodies ≡ w .bodies
+  pub islands : length (w .islands) ≤ length (u .islands)
+  pub tracked : w .tracked ≤ u .tracked
+  pub places : w .joint-places ≤ u .joint-places
+  pub journal : length (w .removal-journal) ≤ length (u .removal-journal)
+
+-- the tables came from t₀ by steps, and hold the state u
+pub record Came (Z : Sizes) (t₀ t : List ℕ) (u : World) : Type 0 where
+  pub sound : Sound Z t
+  pub after : worldOf Z t ≡ u
+  pub onward : Onward (worldOf Z t₀) u
+  pub frame : Kept Z (extents (tables Z t)) (tables Z t₀) (tables Z t)
+
+-- the pairs that are left to link: the body before is `prev`, where there is one
+unfoldable pub linkRest : Sizes → ℕ → ℕ → Bool → ℕ → Handle → List Handle → World → World
+linkRest Z high low has o prev hs w = pick has (linked Z high low o prev hs w) (linkedAll Z high low hs w)

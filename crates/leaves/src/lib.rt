@@ -21,7 +21,7 @@ use kinds::Sizes;
 use tables::Table;
 
 // A count and one more; counts stop at 4294967295.
-fn one_more(c: u32) -> u32
+pub fn one_more(c: u32) -> u32
     ensures { λ r. ⌜ r ≡ more c ⌝ }
 {
     if c == 4294967295 {

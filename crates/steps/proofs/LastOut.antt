@@ -32,7 +32,7 @@ module _ {A : Type 0} where
   pub last-snoc : (d : A) (xs : List A) (a : A) → lastOf d (xs ++ (a ∷ [])) ≡ a
   last-snoc d xs a = getD-at xs a [] d (length (xs ++ (a ∷ [])) - 1) (size-snoc xs a)
 
-  map-same : (f g : ℕ → A) (xs : List ℕ) → ((p : ℕ) → p < length xs → f (getD xs p 0) ≡ g (getD xs p 0)) → map f xs ≡ map g xs
+  pub map-same : (f g : ℕ → A) (xs : List ℕ) → ((p : ℕ) → p < length xs → f (getD xs p 0) ≡ g (getD xs p 0)) → map f xs ≡ map g xs
   map-same f g [] h = refl
   map-same f g (x ∷ xs) h = rw (h 0 (omega arith), map-same f g xs (λ p l. h (suc p) (omega arith)))
 
@@ -91,7 +91,7 @@ module _ (N n m : ℕ) (x : List ℕ) (w : Wf x 0 (4 * N) n m) (i e : ℕ) (il :
         ready = remove-ready N w e last-lt last-held;
       }
 
-  last-place : S .place e ≡ length (listOf S i) - 1
+  pub last-place : S .place e ≡ length (listOf S i) - 1
   last-place = let a : S .place e + 1 ≡ S .count i = rw q (F .last-place) in let b = length-list (w .rules) i il in omega arith
 
   last-of : lastOf 0 (listOf S i) ≡ e

@@ -1,6 +1,7 @@
 -- Laws of the steps.
 pub mod Good
 pub mod Then
+pub mod At
 pub mod Slot
 pub mod GrowSlot
 pub mod Names
@@ -8,10 +9,11 @@ pub mod Put
 pub mod Reset
 pub mod LastOut
 pub mod Stays
+pub mod Touching
+pub mod OneContact
 pub mod DropContact
 pub mod DropJoint
 pub mod Emptied
-pub mod At
 pub mod Isle
 pub mod GrowIsland
 pub mod Leave
@@ -20,3 +22,6 @@ pub mod Row
 pub mod Resolve
 pub mod Link
 pub mod Chaining
+pub mod GrowEdge
+pub mod Entry
+pub mod Unlink

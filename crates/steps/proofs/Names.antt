@@ -10,7 +10,7 @@ use borrow.Author.Tests.{eq-eqb, ne-eqb, eqb-true, eqb-false}
 use lib.ListN.{length, getD}
 use Rattle.lists.specs.Rules.{none, View, Rules, Blank, Held, listOf}
 use Rattle.lists.specs.Table.{view, pick}
-use Rattle.lists.proofs.Laws.{either}
+use Rattle.lists.proofs.Laws.{either, held, held-in}
 use Rattle.lists.proofs.Same.{below}
 use Rattle.lists.proofs.Order.{At, length-list, list-at, list-of}
 use Rattle.kinds.specs.declared.Sizes.{Sizes}
@@ -40,6 +40,34 @@ place-is [] e p h q o = absurd (omega arith)
 place-is (x ∷ xs) e zero h q o = rw (eq-eqb x e q)
 place-is (x ∷ xs) e (suc p) h q o = rw (ne-eqb x e (o 0 (omega arith)), place-is xs e p (omega arith) q (λ k l. o (suc k) (omega arith)))
 
+-- ---- which list of a chain table has an element, and at which place: the home and the place that its words name
+module _ {n m : ℕ} {S : View} (R : Rules n m S) where
+  pub listed-no : (i e : ℕ) → i < m → (e < n → S .home e ≢ i) → has (listOf S i) e ≡ false
+  listed-no i e l d =
+      has-no (listOf S i) e
+      (λ p pl q.
+      let A = list-at R i l p (rw (length-list R i l) at pl) in
+      let a = A .lt in
+      d (omega arith) (ap (S .home) (sym q) ∙ A .home-is))
+
+  module _ (e : ℕ) (el : e < n) (il : S .home e < m) where
+    H : Held n m S e
+    H = held-in R e (S .home e) el il refl
+
+    pub listed-lt : S .place e < length (listOf S (S .home e))
+    listed-lt = let p = H .place-lt in let l = length-list R (S .home e) il in omega arith
+
+    pub listed-yes : has (listOf S (S .home e)) e ≡ true
+    listed-yes = has-yes (listOf S (S .home e)) e (S .place e) listed-lt (list-of R (S .home e) il e el refl)
+
+    pub listed-place : placeOf (listOf S (S .home e)) e ≡ S .place e
+    listed-place =
+        let l = length-list R (S .home e) il in
+        let p = listed-lt in
+        place-is (listOf S (S .home e)) e (S .place e) listed-lt (list-of R (S .home e) il e el refl)
+        (λ q ql x. (let a : S .place e ≡ q = ap (S .place) (sym x) ∙ list-at R (S .home e) il q (omega arith) .place-is in omega arith))
+
+-- ---- the island of a body
 below-no : (is : List Island) (e k : ℕ) → ((i : ℕ) → i < k → has (getD is i noIsland .bodies) e ≡ false) → islandBelow is e k ≡ top
 unfolding islandBelow
 below-no is e zero h = refl
@@ -107,41 +135,23 @@ module _ (Z : Sizes) (X : Extents) (T : Tables) where
     named-filled h N =
         ⊎-elim (λ v. absurd (let a = v .no-generation in let b = N .generation-is in let c = N .not-absent in omega arith)) (λ f. f) (G .slot (h .slot) (N .slot-lt))
 
-    not-in : (s i : ℕ) → i < X .islands → ((x : ℕ) → x < X .slots → S .home x ≡ i → x ≢ s) → has (islandAt w i .bodies) s ≡ false
-    not-in s i l d =
-        rw (island-at i l)
-        (has-no (listOf S i) s
-        (λ p pl e.
-        let A = list-at R i l p (rw (length-list R i l) at pl) in
-        d (getD (listOf S i) p 0) (A .lt) (A .home-is) e))
+    not-in : (s i : ℕ) → i < X .islands → (s < X .slots → S .home s ≢ i) → has (islandAt w i .bodies) s ≡ false
+    not-in s i l d = rw (island-at i l) (listed-no R i s l d)
 
     -- the island that lists a body is the home that its words name
     pub island-of : (s : ℕ) → s < X .slots → islandOf w s ≡ S .home s
     unfolding islandOf
     island-of s sl =
         rw (length-tabulate (X .islands) (islandIn Z T))
-        (⊎-elim
-        (λ (b : Blank (X .slots) (X .islands) S s).
-        below-no (w .islands) s (X .islands)
-        (λ i l. not-in s i l (λ x xl h e. (let z = b .home-none in let o = R .m-small in let q : S .home x ≡ S .home s = ap (S .home) e in omega arith)))
-        ∙ sym (b .home-none))
-        (λ (h : Held (X .slots) (X .islands) S s).
-        let i = S .home s in
-        below-yes (w .islands) s i (X .islands) (h .home-lt)
-        (rw (island-at i (h .home-lt)) (has-yes (listOf S i) s (S .place s) (rw (length-list R i (h .home-lt)) (h .place-lt)) (list-of R i (h .home-lt) s sl refl)))
-        (λ j jl d. not-in s j jl (λ x xl q e. d (sym q ∙ ap (S .home) e))))
-        (R .elem s sl))
+        (either (S .home s) none
+        (λ q. below-no (w .islands) s (X .islands) (λ i l. not-in s i l (λ h e. (let o = R .m-small in omega arith))) ∙ sym q)
+        (λ d.
+        let il = held R s sl d .home-lt in
+        below-yes (w .islands) s (S .home s) (X .islands) il (rw (island-at (S .home s) il) (listed-yes R s sl il)) (λ j jl o. not-in s j jl (λ h e. o (sym e)))))
 
     -- the place at which the list has it
     pub place-of : (s : ℕ) → s < X .slots → S .home s < X .islands → placeOf (listOf S (S .home s)) s ≡ S .place s
-    place-of s sl il =
-        let i = S .home s in
-        let l = length-list R i il in
-        let h : Held (X .slots) (X .islands) S s =
-        ⊎-elim (λ (b : Blank (X .slots) (X .islands) S s). absurd (let z = b .home-none in let o = R .m-small in omega arith)) (λ (h : Held (X .slots) (X .islands) S s). h) (R .elem s sl) in
-        let p = h .place-lt in
-        place-is (listOf S i) s (S .place s) (omega arith) (list-of R i il s sl refl)
-        (λ q ql e. (let a : S .place s ≡ q = ap (S .place) (sym e) ∙ list-at R i il q (omega arith) .place-is in omega arith))
+    place-of s sl il = listed-place R s sl il
 
 -- the same of a buffer
 module _ (Z : Sizes) (t : List ℕ) (s g : ℕ) where

@@ -5,3 +5,4 @@ pub mod Drops
 pub mod Linking
 pub mod Resolving
 pub mod Chaining
+pub mod Lives

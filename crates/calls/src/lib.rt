@@ -3,10 +3,13 @@ ghost use Prim.Native.Nat.{_≤_};
 ghost use Rattle.kinds.specs.Number.{rig};
 ghost use Rattle.state.specs.Bodies.{put as putStep, flags as flagsStep, retire as retireStep, island as islandOf};
 ghost use Rattle.state.specs.Membership.{ensure as ensureStep, remove as removeStep};
+ghost use Rattle.state.specs.Links.{unlink-contact};
+ghost use Rattle.state.specs.Resolver.{resolve-removals};
 ghost use Rattle.tables.specs.Does.{Call, Asks, Reset};
 ghost use Rattle.calls.specs.Refusal.{noIsland};
 ghost use Rattle.steps.specs.Steps.{handle};
 use kinds::Answer;
+use kinds::Edge;
 use kinds::Handle;
 use kinds::IslandAnswer;
 use kinds::Sizes;
@@ -74,4 +77,19 @@ pub fn island(t: &[u32], h: Handle) -> IslandAnswer
     let s = slot.0;
     let g = h.generation;
     sized::island(t, Sizes::RIG, s, g)
+}
+
+// Unlinks the contact of an edge number, and journals its removal.
+pub fn uncontact(t: &mut [u32], edge: Edge) -> Answer
+    ensures { λ r. ⌜ Call rig (unlink-contact rig (edge .0)) (now (t .entry)) r (now (t .exit)) ⌝ }
+{
+    let e = edge.0;
+    sized::uncontact(t, Sizes::RIG, e)
+}
+
+// Counts the journal's entries, and empties it.
+pub fn resolve(t: &mut [u32]) -> Answer
+    ensures { λ r. ⌜ Call rig resolve-removals (now (t .entry)) r (now (t .exit)) ⌝ }
+{
+    sized::resolve(t, Sizes::RIG)
 }

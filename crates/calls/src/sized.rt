@@ -2,6 +2,8 @@
 ghost use mathlib.Core.Path.{_≡_};
 ghost use Rattle.state.specs.Bodies.{put as putStep, flags as flagsStep, retire as retireStep, island as islandOf};
 ghost use Rattle.state.specs.Membership.{ensure as ensureStep, remove as removeStep};
+ghost use Rattle.state.specs.Links.{unlink-contact};
+ghost use Rattle.state.specs.Resolver.{resolve-removals};
 ghost use Rattle.tables.specs.Does.{Call, Asks};
 ghost use Rattle.calls.specs.Refusal.{noIsland};
 ghost use Rattle.steps.specs.Steps.{handle};
@@ -82,4 +84,22 @@ pub fn island(t: &[u32], z: Sizes, s: u32, g: u32) -> IslandAnswer
         };
     }
     leaves::island_on(t, z, s, g)
+}
+
+pub fn uncontact(t: &mut [u32], z: Sizes, e: u32) -> Answer
+    ensures { λ r. ⌜ Call z (unlink-contact z e) (now (t .entry)) r (now (t .exit)) ⌝ }
+{
+    if !whole::sound(t, z) {
+        return Answer::BadTables;
+    }
+    contacts::unlink_contact_on(t, z, e)
+}
+
+pub fn resolve(t: &mut [u32], z: Sizes) -> Answer
+    ensures { λ r. ⌜ Call z resolve-removals (now (t .entry)) r (now (t .exit)) ⌝ }
+{
+    if !whole::sound(t, z) {
+        return Answer::BadTables;
+    }
+    resolves::resolve_on(t, z)
 }

@@ -238,7 +238,7 @@ module _ (Z : Sizes) (X : Extents) (T : Tables) (G : Good Z X T) (K : Sized Z T)
   w6 : getD H 6 0 ≡ 0
   w6 = let l = K .head-length in hit (T .head) ((5, 0) ∷ []) 6 0 [] (omega arith) (omega arith)
 
-  clear-extents : extents (head-put T H) ≡ extents T
+  pub clear-extents : extents (head-put T H) ≡ extents T
   clear-extents =
       extents-is (head-o 0 (omega arith) (omega arith)) (head-o 1 (omega arith) (omega arith)) (head-o 2 (omega arith) (omega arith)) (head-o 3 (omega arith) (omega arith))
       (head-o 4 (omega arith) (omega arith))

@@ -25,3 +25,4 @@ pub mod Chaining
 pub mod GrowEdge
 pub mod Entry
 pub mod Unlink
+pub mod Merge

@@ -6,3 +6,4 @@ pub mod Linking
 pub mod Resolving
 pub mod Chaining
 pub mod Lives
+pub mod Merging

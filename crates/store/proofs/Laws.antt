@@ -53,12 +53,17 @@ module _ (Z : Sizes) (k : Table) (t : List ℕ) {a n : ℕ} (p : a ≡ tableAt Z
 pub home-in : (Z : Sizes) (k : Table) (e : ℕ) → e < room Z k → 4 * e < tableLong Z k
 home-in Z k e h = let l = chain-long Z k in omega arith
 
--- one more store into a table into which others went
-pub then-set : (Z : Sizes) (k : Table) (j v : ℕ) {t t1 t2 ys : List ℕ} → Put (tableAt Z k) (tableLong Z k) t t1 ys
-    → Put (tableAt Z k) (tableLong Z k) t1 t2 (set (tableOf k (tables Z t1)) j v) → Put (tableAt Z k) (tableLong Z k) t t2 (set ys j v)
-then-set Z k j v {t} {t1} {t2} {ys} P Q =
+-- one more change of a table that was changed before
+pub then-put : (Z : Sizes) (k : Table) (f : List ℕ → List ℕ) {t t1 t2 ys : List ℕ} → Put (tableAt Z k) (tableLong Z k) t t1 ys
+    → Put (tableAt Z k) (tableLong Z k) t1 t2 (f (tableOf k (tables Z t1))) → Put (tableAt Z k) (tableLong Z k) t t2 (f ys)
+then-put Z k f {t} {t1} {t2} {ys} P Q =
     record {
       same-length = Q .same-length ∙ P .same-length;
-      here = Q .here ∙ ap (λ (x : List ℕ). set x j v) (sym (part-is Z k t1) ∙ P .here);
+      here = Q .here ∙ ap f (sym (part-is Z k t1) ∙ P .here);
       apart = λ b i l o. Q .apart b i (rw (P .same-length) l) o ∙ P .apart b i l o;
     }
+
+-- one more store
+pub then-set : (Z : Sizes) (k : Table) (j v : ℕ) {t t1 t2 ys : List ℕ} → Put (tableAt Z k) (tableLong Z k) t t1 ys
+    → Put (tableAt Z k) (tableLong Z k) t1 t2 (set (tableOf k (tables Z t1)) j v) → Put (tableAt Z k) (tableLong Z k) t t2 (set ys j v)
+then-set Z k j v P Q = then-put Z k (λ x. set x j v) P Q

@@ -5,6 +5,7 @@ ghost use lib.ListN.{length, getD, set};
 ghost use Rattle.lists.specs.Rules.{Is};
 ghost use Rattle.lists.specs.Table.{pushed, removed, PushReady, RemoveReady, Wf};
 ghost use Rattle.lists.specs.Word.{writes};
+ghost use Rattle.splice.specs.Splice.{spliced, SpliceReady};
 ghost use Rattle.frame.specs.Part.{Put};
 ghost use Rattle.tables.specs.Layout.{tables, total, tableAt, tableLong, tableOf, room, listRoom, chain-in};
 use kinds::Sizes;
@@ -218,6 +219,17 @@ pub fn remove(t: &mut [u32], z: Sizes, k: Table, e: u32)
     let n = table_long(z, k);
     let b = ends_at(z, k);
     frame::remove_in(t, a, n, b, e);
+}
+
+// The list small is put behind the list big, and is empty then. The work is that of small.
+pub fn splice(t: &mut [u32], z: Sizes, k: Table, big: u32, small: u32)
+    requires { ⌜ (length (now t) ≡ total z) × SpliceReady (tableOf k (tables z (now t))) 0 (4 * room z k) big small ⌝ }
+    ensures { λ _. ⌜ Put (tableAt z k) (tableLong z k) (now (t .entry)) (now (t .exit)) (spliced (tableOf k (tables z (now (t .entry)))) 0 (4 * room z k) big small) ⌝ }
+{
+    let a = table_at(z, k);
+    let n = table_long(z, k);
+    let b = ends_at(z, k);
+    frame::splice_in(t, a, n, b, big, small);
 }
 
 // Do the rules of a chain table hold of its first n elements and m lists?

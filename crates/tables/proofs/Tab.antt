@@ -6,6 +6,9 @@ use native.Mathlib.Omega.{arith}
 use mathlib.Core.List.{List, [], _∷_, _++_}
 use lib.ListN.{length, getD, set, length-append, length-set, List·getD-append}
 use lib.Seq.{ext-getD, getD-at, getD-set-same, getD-set-other}
+use lib.Dec.{eqb}
+use borrow.Author.Tests.{eq-eqb, ne-eqb}
+use Rattle.lists.specs.Table.{pick}
 use Rattle.lists.proofs.Laws.{either}
 use Rattle.tables.specs.Decode.{tabulate}
 
@@ -46,6 +49,13 @@ module _ {A : Type 0} where
       ∙ either k i
       (λ s. ap f s ∙ e ∙ sym (ap (λ (j : ℕ). getD (set (tabulate n g) i v) j v) s ∙ getD-set-same (tabulate n g) i v v (rw (length-tabulate n g) (omega arith))))
       (λ d. h k kl d ∙ sym (getD-set-other (tabulate n g) i k v v d ∙ getD-tabulate n g v k kl)))
+
+  -- where they differ at i and j alone
+  pub tabulate-two : (n i j : ℕ) (f g : ℕ → A) (v w : A) → f i ≡ v → f j ≡ w → ((k : ℕ) → k < n → k ≢ i → k ≢ j → f k ≡ g k) → tabulate n f ≡ set (set (tabulate n g) i v) j w
+  tabulate-two n i j f g v w p q h =
+      let m : ℕ → A = λ k. pick (eqb k i) v (g k) in
+      tabulate-set n j f m w q (λ k l o. either k i (λ e. ap f e ∙ p ∙ sym (rw (eq-eqb k i e))) (λ e. h k l e o ∙ sym (rw (ne-eqb k i e))))
+      ∙ ap (λ (xs : List A). set xs j w) (tabulate-set n i m g v (rw (eq-eqb i i refl)) (λ k l o. rw (ne-eqb k i o)))
 
   -- equal lists are equal at each number
   pub tabulate-at : (n : ℕ) (f g : ℕ → A) (d : A) → tabulate n f ≡ tabulate n g → (k : ℕ) → k < n → f k ≡ g k

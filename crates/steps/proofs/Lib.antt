@@ -26,3 +26,4 @@ pub mod GrowEdge
 pub mod Entry
 pub mod Unlink
 pub mod Merge
+pub mod LinkContact

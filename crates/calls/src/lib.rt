@@ -3,7 +3,7 @@ ghost use Prim.Native.Nat.{_≤_};
 ghost use Rattle.kinds.specs.Number.{rig};
 ghost use Rattle.state.specs.Bodies.{put as putStep, flags as flagsStep, retire as retireStep, island as islandOf};
 ghost use Rattle.state.specs.Membership.{ensure as ensureStep, remove as removeStep};
-ghost use Rattle.state.specs.Links.{unlink-contact};
+ghost use Rattle.state.specs.Links.{link-contact, unlink-contact};
 ghost use Rattle.state.specs.Resolver.{resolve-removals};
 ghost use Rattle.tables.specs.Does.{Call, Asks, Reset};
 ghost use Rattle.calls.specs.Refusal.{noIsland};
@@ -77,6 +77,20 @@ pub fn island(t: &[u32], h: Handle) -> IslandAnswer
     let s = slot.0;
     let g = h.generation;
     sized::island(t, Sizes::RIG, s, g)
+}
+
+// Links a touching contact between two bodies, merging their islands if they differ.
+pub fn contact(t: &mut [u32], edge: Edge, first: Handle, second: Handle) -> Answer
+    ensures { λ r. ⌜ Call rig (link-contact rig (edge .0) (handle (first .slot .0) (first .generation)) (handle (second .slot .0) (second .generation))) (now (t .entry)) r (now (t .exit)) ⌝ }
+{
+    let e = edge.0;
+    let slot1 = first.slot;
+    let s1 = slot1.0;
+    let g1 = first.generation;
+    let slot2 = second.slot;
+    let s2 = slot2.0;
+    let g2 = second.generation;
+    sized::contact(t, Sizes::RIG, e, s1, g1, s2, g2)
 }
 
 // Unlinks the contact of an edge number, and journals its removal.

@@ -2,7 +2,7 @@
 ghost use mathlib.Core.Path.{_≡_};
 ghost use Rattle.state.specs.Bodies.{put as putStep, flags as flagsStep, retire as retireStep, island as islandOf};
 ghost use Rattle.state.specs.Membership.{ensure as ensureStep, remove as removeStep};
-ghost use Rattle.state.specs.Links.{unlink-contact};
+ghost use Rattle.state.specs.Links.{link-contact, unlink-contact};
 ghost use Rattle.state.specs.Resolver.{resolve-removals};
 ghost use Rattle.tables.specs.Does.{Call, Asks};
 ghost use Rattle.calls.specs.Refusal.{noIsland};
@@ -102,4 +102,21 @@ pub fn resolve(t: &mut [u32], z: Sizes) -> Answer
         return Answer::BadTables;
     }
     resolves::resolve_on(t, z)
+}
+
+pub fn contact(
+    t: &mut [u32],
+    z: Sizes,
+    e: u32,
+    s1: u32,
+    g1: u32,
+    s2: u32,
+    g2: u32,
+) -> Answer
+    ensures { λ r. ⌜ Call z (link-contact z e (handle s1 g1) (handle s2 g2)) (now (t .entry)) r (now (t .exit)) ⌝ }
+{
+    if !whole::sound(t, z) {
+        return Answer::BadTables;
+    }
+    links::link_contact_on(t, z, e, s1, g1, s2, g2)
 }

@@ -119,22 +119,23 @@ module _ (N n m : ℕ) (x : List ℕ) (w : Wf x 0 (4 * N) n m) (i e : ℕ) (il :
       }
 
 -- the values of what is listed, where those of no number but e changed
+pub still : {A : Type 0} {n m : ℕ} {S : View} (R : Rules n m S) (e : ℕ) → S .home e ≡ none → (f g : ℕ → A) → ((k : ℕ) → k ≢ e → f k ≡ g k) → (j : ℕ) → j < m → map f (listOf S j) ≡ map g (listOf S j)
+still {S} R e he f g same j jl =
+    map-same f g (listOf S j)
+    (λ p l.
+    let k = getD (listOf S j) p 0 in
+    let a : S .home k ≡ j = list-at R j jl p (rw (length-list R j jl) at l) .home-is in
+    same k (λ d. let b : S .home k ≡ none = ap (S .home) d ∙ he in let s = R .m-small in omega arith))
+
 module _ {A : Type 0} {N n m i e : ℕ} {x y : List ℕ} (P : Popped N n m i e x y) (f g : ℕ → A) (same : (k : ℕ) → k ≢ e → f k ≡ g k) where
-  still : (j : ℕ) → j < m → map f (listOf (view y 0 (4 * N)) j) ≡ map g (listOf (view y 0 (4 * N)) j)
-  still j jl =
-      let R = P .wf .rules in
-      let S = view y 0 (4 * N) in
-      map-same f g (listOf S j)
-      (λ p l.
-      let k = getD (listOf S j) p 0 in
-      let a : S .home k ≡ j = list-at R j jl p (rw (length-list R j jl) at l) .home-is in
-      same k (λ d. let b : S .home k ≡ none = ap (S .home) d ∙ P .home-e in let s = R .m-small in omega arith))
+  stay : (j : ℕ) → j < m → map f (listOf (view y 0 (4 * N)) j) ≡ map g (listOf (view y 0 (4 * N)) j)
+  stay = still (P .wf .rules) e (P .home-e) f g same
 
   pub values-i : i < m → map g (listOf (view x 0 (4 * N)) i) ≡ map f (listOf (view y 0 (4 * N)) i) ++ (g e ∷ [])
-  values-i il = ap (map g) (P .list-i) ∙ map-append g (listOf (view y 0 (4 * N)) i) (e ∷ []) ∙ ap (λ (l : List A). l ++ (g e ∷ [])) (sym (still i il))
+  values-i il = ap (map g) (P .list-i) ∙ map-append g (listOf (view y 0 (4 * N)) i) (e ∷ []) ∙ ap (λ (l : List A). l ++ (g e ∷ [])) (sym (stay i il))
 
   pub values-o : (j : ℕ) → j < m → j ≢ i → map f (listOf (view y 0 (4 * N)) j) ≡ map g (listOf (view x 0 (4 * N)) j)
-  values-o j jl d = still j jl ∙ ap (map g) (P .list-o j jl d)
+  values-o j jl d = stay j jl ∙ ap (map g) (P .list-o j jl d)
 
 -- ---- four words are blanked
 pub blanked : (x : List ℕ) (a j : ℕ) → a + 3 < length x → a ≤ j → j < a + 4 → getD (writes x (elemWords a)) j 0 ≡ none

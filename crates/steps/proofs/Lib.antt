@@ -12,6 +12,9 @@ pub mod Stays
 pub mod Touching
 pub mod OneContact
 pub mod DropContact
+pub mod PlaceWords
+pub mod JointKeys
+pub mod TakeJoint
 pub mod DropJoint
 pub mod Emptied
 pub mod Isle
@@ -27,3 +30,9 @@ pub mod Entry
 pub mod Unlink
 pub mod Merge
 pub mod LinkContact
+pub mod PushJoint
+pub mod GrowPlace
+pub mod Journal
+pub mod UnlinkJoint
+pub mod Renumber
+pub mod LinkJoint

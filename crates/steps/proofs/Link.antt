@@ -21,7 +21,7 @@ use Rattle.tables.specs.Sound.{Sound}
 use Rattle.tables.specs.Does.{Does}
 use Rattle.tables.proofs.Frame.{larger-then, kept-then}
 use Rattle.steps.specs.Steps.{Steps}
-use Rattle.steps.specs.Linking.{tracking, contact-push, place-readied, place-ready, joint-push}
+use Rattle.steps.specs.Linking.{tracking, contact-push, place-readied, place-ready, joint-push, joint-hold}
 
 -- ---- the island that holds a link of these ends
 module _ (w : World) (h1 h2 : Handle) where
@@ -174,18 +174,20 @@ place-joined i q h1 h2 v =
     ap (λ (p : ℕ). joint-pushed i (record { place = p; key = q; body1 = h1; body2 = h2 }) (places-set (place-readied v) (place-readied v .joint-places) (dropLast (place-readied v .free-places)))) (place-new v)
     ∙ ap (joint-pushed i (record { place = newPlace v; key = q; body1 = h1; body2 = h2 })) (place-taken v)
 
--- from the steps
-module _ {Z : Sizes} {t t1 t2 : List ℕ} (f : World → Step) (i : ℕ) (q : Key) (h1 h2 : Handle) where
-  pub jointed-one : f (worldOf Z t) ≡ done (joint-pushed i (record { place = newPlace (worldOf Z t); key = q; body1 = h1; body2 = h2 }) (take-place (worldOf Z t)))
-      → Steps Z place-ready t t1 → Steps Z (joint-push i q h1 h2) t1 t2 → Does Z f t Done t2
-  unfolding place-ready joint-push
-  jointed-one e A B =
-      record {
-        sound = B .does .sound;
-        answer = sym (ap (λ (x : Step). x .answer) e);
-        after = B .does .after ∙ ap (λ (u : World). joint-push i q h1 h2 u .after) (A .does .after) ∙ place-joined i q h1 h2 (worldOf Z t) ∙ sym (ap (λ (x : Step). x .after) e);
-        frame = kept-then (B .larger) (A .does .frame) (B .does .frame);
-      }
+-- from the steps: a place made ready and taken
+pub place-held : {Z : Sizes} {t t1 t2 : List ℕ} (i : ℕ) (q : Key) (h1 h2 : Handle) → Steps Z place-ready t t1 → Steps Z (joint-push i q h1 h2) t1 t2 → Steps Z (joint-hold i q h1 h2) t t2
+unfolding place-ready joint-hold
+place-held {Z} {t} i q h1 h2 A B =
+    record {
+      does =
+          record {
+            sound = B .does .sound;
+            answer = refl;
+            after = B .does .after ∙ ap (λ (u : World). joint-push i q h1 h2 u .after) (A .does .after) ∙ place-joined i q h1 h2 (worldOf Z t);
+            frame = kept-then (B .larger) (A .does .frame) (B .does .frame);
+          };
+      larger = larger-then (A .larger) (B .larger);
+    }
 
 -- merging touches no place of the key table
 pick-both : (P : World → Type 0) (c : Bool) {u v : World} → P u → P v → P (pick c u v)
@@ -208,19 +210,14 @@ new-place-same : (w u : World) → SamePlaces w u → newPlace u ≡ newPlace w
 unfolding newPlace
 new-place-same w u p = rw (p .0, p .1)
 
-pub jointed-two : {Z : Sizes} {t t1 t2 t3 : List ℕ} (f : World → Step) (a b i : ℕ) (q : Key) (h1 h2 : Handle)
-    → f (worldOf Z t) ≡ done (joint-pushed i (record { place = newPlace (worldOf Z t); key = q; body1 = h1; body2 = h2 }) (take-place (merge-islands a b (worldOf Z t))))
-    → Steps Z (λ w. done (merge-islands a b w)) t t1 → Steps Z place-ready t1 t2 → Steps Z (joint-push i q h1 h2) t2 t3 → Does Z f t Done t3
-unfolding place-ready joint-push
-jointed-two {Z} {t} f a b i q h1 h2 e M A B =
-    let w = worldOf Z t in
-    record {
-      sound = B .does .sound;
-      answer = sym (ap (λ (x : Step). x .answer) e);
-      after =
-          B .does .after ∙ ap (λ (u : World). joint-push i q h1 h2 u .after) (A .does .after) ∙ ap (λ (u : World). joint-push i q h1 h2 (place-readied u) .after) (M .does .after)
-          ∙ place-joined i q h1 h2 (merge-islands a b w)
-          ∙ ap (λ (p : ℕ). joint-pushed i (record { place = p; key = q; body1 = h1; body2 = h2 }) (take-place (merge-islands a b w))) (new-place-same w (merge-islands a b w) (merge-places a b w))
-          ∙ sym (ap (λ (x : Step). x .after) e);
-      frame = kept-then (B .larger) (kept-then (A .larger) (M .does .frame) (A .does .frame)) (B .does .frame);
-    }
+-- the joint link after a merge
+pub merged-hold : (a b i : ℕ) (q : Key) (h1 h2 : Handle) (w : World)
+    → joint-hold i q h1 h2 (merge-islands a b w) .after ≡ joint-pushed i (record { place = newPlace w; key = q; body1 = h1; body2 = h2 }) (take-place (merge-islands a b w))
+unfolding joint-hold
+merged-hold a b i q h1 h2 w =
+    ap (λ (p : ℕ). joint-pushed i (record { place = p; key = q; body1 = h1; body2 = h2 }) (take-place (merge-islands a b w))) (new-place-same w (merge-islands a b w) (merge-places a b w))
+
+-- how many joint links fit yet
+pub merged-room : (Z : Sizes) (a b : ℕ) (w : World) → jointRoom Z (merge-islands a b w) ≡ jointRoom Z w
+unfolding jointRoom
+merged-room Z a b w = let p = merge-places a b w in rw (p .0, p .1)

@@ -74,14 +74,14 @@ module _ (Z : Sizes) (X : Extents) (T : Tables) (G : Good Z X T) where
     il : S .home e < X .islands
     il = held R e el d .home-lt
 
-    home-held : contactHome w e ≡ S .home e
+    pub home-held : contactHome w e ≡ S .home e
     unfolding contactHome
     home-held =
         rw (length-tabulate (X .islands) (islandIn Z T))
         (below-yes (w .islands) e (S .home e) (X .islands) il (rw (edges-in (S .home e) il) (listed-yes R e el il))
         (λ j jl o. not-in e j jl (λ h s. o (sym s))))
 
-    place-held : placeOf (edgesOf (islandAt w (S .home e))) e ≡ S .place e
+    pub place-held : placeOf (edgesOf (islandAt w (S .home e))) e ≡ S .place e
     place-held = rw (edges-in (S .home e) il) (listed-place R e el il)
 
     link-held : getD (islandAt w (S .home e) .contact-links) (S .place e) noContact ≡ contactAt (T .touches) e

@@ -7,3 +7,5 @@ pub mod Resolving
 pub mod Chaining
 pub mod Lives
 pub mod Merging
+pub mod Places
+pub mod Renumbering

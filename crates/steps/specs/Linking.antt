@@ -7,7 +7,7 @@ use lib.ListN.{length}
 use Rattle.lists.specs.Table.{pick}
 use Rattle.state.specs.Plain.{top, empty, dropLast, lastOf}
 use Rattle.state.specs.World.{Handle, Key, impulse, chain, ContactLink, JointLink, World, Step, done, places-set, journal-set}
-use Rattle.state.specs.Links.{track, contact-pushed, contact-removed, joint-pushed, joint-removed, journal-removal, absorb, renumbered}
+use Rattle.state.specs.Links.{track, contact-pushed, contact-removed, joint-pushed, joint-removed, newPlace, take-place, absorb}
 
 -- ---- contact links
 
@@ -52,3 +52,7 @@ joint-remove i p w = done (joint-removed i p w)
 -- ---- islands
 unfoldable pub absorbs : ℕ → ℕ → World → Step
 absorbs big small w = done (absorb big small w)
+
+-- a place is taken for the link, the last joint link of the island i
+unfoldable pub joint-hold : ℕ → Key → Handle → Handle → World → Step
+joint-hold i q h1 h2 w = done (joint-pushed i (record { place = newPlace w; key = q; body1 = h1; body2 = h2 }) (take-place w))

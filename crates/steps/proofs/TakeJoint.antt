@@ -1,0 +1,217 @@
+-- A joint link goes, by swap removal: its words are blank and its place of the key table is free.
+use mathlib.Core.Path.{_≡_, refl, sym, _∙_, ap, subst}
+use mathlib.Core.Logic.{inl, inr, _≢_, ⊎-elim}
+use mathlib.Core.List.{List, [], _∷_, _++_, map}
+use Prim.Native.Nat.{ℕ, zero, suc, _+_, _-_, _*_, _<_}
+use native.Mathlib.Omega.{arith}
+use lib.ListN.{length, getD, set, take, length-map}
+use Rattle.lists.specs.Rules.{none, View, Held, listOf, swapRemove as takenOut}
+use Rattle.lists.specs.Word.{writes}
+use Rattle.lists.specs.Table.{removed, pushed, PushReady, RemoveReady}
+use Rattle.lists.proofs.Laws.{either, held}
+use Rattle.lists.proofs.Order.{length-list}
+use Rattle.frame.specs.Part.{Put}
+use Rattle.kinds.specs.declared.Sizes.{Sizes}
+use Rattle.state.specs.Plain.{swapRemove}
+use Rattle.state.specs.World.{JointLink, noJoint, Island, islandAt, island-set}
+use Rattle.state.specs.Links.{joints-set, joint-removed}
+use Rattle.tables.specs.Layout.{Tables, tables, total, jointsAt, jointsLong, keysAt, keysLong, spareAt, spareLong, joints-put, keys-put, spare-put, Extents, extents, joints-in, spare-in, elemWords}
+use Rattle.tables.specs.Decode.{jointAt, islandIn, decode}
+use Rattle.tables.specs.Sound.{JointAt, IslandAt, Distinct, Good, Sound}
+use Rattle.tables.specs.Does.{Kept}
+use Rattle.tables.proofs.Puts.{Sized, sized, put-joints, put-keys, put-spare}
+use Rattle.tables.proofs.Tab.{tabulate-set}
+use Rattle.tables.proofs.Chains.{Added, Taken, added, taken, push-ready, remove-ready}
+use Rattle.tables.proofs.Frame.{larger-refl, kept-then, kept-joints, kept-keys, kept-spare}
+use Rattle.steps.specs.Drops.{Stays, ContactsStay}
+use Rattle.steps.specs.Linking.{joint-remove}
+use Rattle.steps.specs.Places.{JointTaken}
+use Rattle.steps.proofs.Good.{island-is, world-is, island-rule}
+use Rattle.steps.proofs.At.{steps-at}
+use Rattle.steps.proofs.Names.{island-at}
+use Rattle.steps.proofs.LastOut.{still}
+use Rattle.steps.proofs.JointKeys.{value-at, link-at}
+use Rattle.steps.proofs.PlaceWords.{eight, outside, other-link, other-rule, other-keys, word-0, word-1, word-2, word-3, word-4, word-5, word-6, word-7}
+
+-- ---- values of a list after a swap removal
+module _ {A : Type 0} (g : ℕ → A) where
+  map-take : (n : ℕ) (xs : List ℕ) → map g (take n xs) ≡ take n (map g xs)
+  map-take zero xs = refl
+  map-take (suc n) [] = refl
+  map-take (suc n) (x ∷ xs) = ap (λ (ys : List A). g x ∷ ys) (map-take n xs)
+
+  map-set : (xs : List ℕ) (k v : ℕ) → map g (set xs k v) ≡ set (map g xs) k (g v)
+  map-set [] k v = refl
+  map-set (x ∷ xs) zero v = refl
+  map-set (x ∷ xs) (suc k) v = ap (λ (ys : List A). g x ∷ ys) (map-set xs k v)
+
+  map-swap : (xs : List ℕ) (d : A) (k : ℕ) → 0 < length xs → map g (takenOut xs k) ≡ swapRemove d (map g xs) k
+  unfolding takenOut
+  map-swap xs d k h =
+      let n = length xs in
+      let e : length (map g xs) ≡ n = length-map xs g in
+      map-take (n - 1) (set xs k (getD xs (n - 1) 0)) ∙ ap (take (n - 1)) (map-set xs k (getD xs (n - 1) 0) ∙ ap (set (map g xs) k) (sym (value-at g xs d (n - 1) (omega arith))))
+      ∙ ap (λ (m : ℕ). take (m - 1) (set (map g xs) k (getD (map g xs) (m - 1) d))) (sym e)
+
+module _ (Z : Sizes) (X : Extents) (T : Tables) (G : Good Z X T) (K : Sized Z T) (p : ℕ) (pl : p < X .joints) (hn : joints-in Z T .home p ≢ none) where
+  abbrev S : View
+  S = joints-in Z T
+
+  abbrev i : ℕ
+  i = S .home p
+
+  abbrev J : List ℕ
+  J = removed (T .joints) 0 (4 * Z .joints) p
+
+  abbrev U : List ℕ
+  U = eight (T .keys) p none none none none none none none none
+
+  abbrev Q : List ℕ
+  Q = pushed (T .spare) 0 (4 * Z .joints) 0 p
+
+  abbrev T′ : Tables
+  T′ = spare-put (keys-put (joints-put T J) U) Q
+
+  hp : Held (X .joints) (X .islands) S p
+  hp = held (G .joints-wf .rules) p pl hn
+
+  il : i < X .islands
+  il = hp .home-lt
+
+  P : Taken (Z .joints) (X .joints) (X .islands) p (T .joints) J
+  P = taken (Z .joints) (X .joints) (X .islands) (T .joints) (G .joints-wf) p pl hn
+
+  not-free : spare-in Z T .home p ≡ none
+  not-free = ⊎-elim (λ u. absurd (hn (u .not-linked))) (λ k. k .not-spare) (G .joint p pl)
+
+  free-ready : PushReady (T .spare) 0 (4 * Z .joints) 0 p
+  free-ready = push-ready (Z .joints) (G .spare-wf) 0 p (omega arith) pl not-free
+
+  A : Added (Z .joints) (X .joints) 1 0 p (T .spare) Q
+  A = added (Z .joints) (X .joints) 1 (T .spare) (G .spare-wf) 0 p (omega arith) pl not-free
+
+  inside : 8 * p + 7 < length (T .keys)
+  inside = let k = K .keys-length in let l = G .joints-le in omega arith
+
+  take-distinct : Distinct (joints-in Z T′ .home) U (X .joints)
+  take-distinct a b al bl ha hb s =
+      let da : a ≢ p = λ r. ha (ap (joints-in Z T′ .home) r ∙ P .home-e) in
+      let db : b ≢ p = λ r. hb (ap (joints-in Z T′ .home) r ∙ P .home-e) in
+      G .distinct a b al bl (λ z. ha (P .home-o a al da ∙ z)) (λ z. hb (P .home-o b bl db ∙ z)) (other-keys (T .keys) p none none none none none none none none a b da db s)
+
+  take-good : Good Z X T′
+  take-good =
+      record {
+        enough = G .enough;
+        slots-le = G .slots-le;
+        islands-le = G .islands-le;
+        edges-le = G .edges-le;
+        joints-le = G .joints-le;
+        journal-le = G .journal-le;
+        members-wf = G .members-wf;
+        freed-wf = G .freed-wf;
+        contacts-wf = G .contacts-wf;
+        joints-wf = P .wf;
+        spare-wf = A .wf;
+        scan-wf = G .scan-wf;
+        slot = G .slot;
+        island = λ j h.
+            either j i
+            (λ s. subst (IslandAt Z T′) (sym s) (⊎-elim inl (λ f. absurd (let z = f .no-joint in let y = hp .place-lt in omega arith)) (G .island i il)))
+            (λ d. island-rule refl refl (P .count-o j h d) refl refl refl refl (G .island j h));
+        seen = G .seen;
+        edge = G .edge;
+        joint = λ k h.
+            either k p
+            (λ s.
+            subst (JointAt Z T′) (sym s)
+            (inl
+            (record {
+              not-linked = P .home-e;
+              in-stack = A .view-is .home-e;
+              no-kind = word-0 (T .keys) p none none none none none none none none inside;
+              no-a = word-1 (T .keys) p none none none none none none none none inside;
+              no-b = word-2 (T .keys) p none none none none none none none none inside;
+              no-c = word-3 (T .keys) p none none none none none none none none inside;
+              no-slot1 = word-4 (T .keys) p none none none none none none none none inside;
+              no-generation1 = word-5 (T .keys) p none none none none none none none none inside;
+              no-slot2 = word-6 (T .keys) p none none none none none none none none inside;
+              no-generation2 = word-7 (T .keys) p none none none none none none none none inside;
+            })))
+            (λ d. other-rule (T .keys) p none none none none none none none none k d (P .home-o k h d) (A .view-is .home-o k h d) (G .joint k h));
+        distinct = take-distinct;
+        head = G .head;
+      }
+
+  abbrev f : ℕ → JointLink
+  f = jointAt U
+
+  abbrev g : ℕ → JointLink
+  g = jointAt (T .keys)
+
+  same : (j : ℕ) → j < X .islands → map f (listOf (joints-in Z T′) j) ≡ map g (listOf (joints-in Z T′) j)
+  same = still (P .wf .rules) p (P .home-e) f g (λ k d. other-link (T .keys) p none none none none none none none none k d)
+
+  size : length (listOf S i) ≡ S .count i
+  size = length-list (G .joints-wf .rules) i il
+
+  take-world : decode Z X T′ ≡ joint-removed i (S .place p) (decode Z X T)
+  unfolding joint-removed island-set
+  take-world =
+      let h = hp .place-lt in
+      let s = size in
+      world-is refl
+      (tabulate-set (X .islands) i (islandIn Z T′) (islandIn Z T) _
+      (island-is refl refl (same i il ∙ ap (map g) (P .list-e) ∙ map-swap g (listOf S i) noJoint (S .place p) (omega arith)) refl refl refl
+      ∙ ap (λ (a : Island). joints-set a (swapRemove noJoint (a .joint-links) (S .place p))) (sym (island-at Z X T i il)))
+      (λ j jl d. island-is refl refl (same j jl ∙ ap (map g) (P .list-o j jl d)) refl refl refl))
+      refl refl refl (A .list-i ∙ ap (λ (l : JointLink). listOf (spare-in Z T) 0 ++ (l .place ∷ [])) (sym (link-at Z X T G p pl hn))) refl refl refl refl refl
+
+  take-kept : Kept Z X T T′
+  take-kept =
+      kept-then (larger-refl X) (kept-joints (P .kept))
+      (kept-then (larger-refl X) (kept-keys (λ j h. outside (T .keys) p none none none none none none none none j (inr (omega arith)))) (kept-spare (A .kept)))
+
+-- ---- the step
+module _ {Z : Sizes} {t : List ℕ} (p : ℕ) (S : Sound Z t) (pl : p < extents (tables Z t) .joints) (hn : joints-in Z (tables Z t) .home p ≢ none) where
+  -- what the stores ask
+  pub take-ready : RemoveReady (tables Z t .joints) 0 (4 * Z .joints) p
+  take-ready = remove-ready (Z .joints) (S .good .joints-wf) p pl hn
+
+  pub spare-ready : {t1 t2 t3 y1 y2 y3 : List ℕ} → Put (jointsAt Z) (jointsLong Z) t t1 y1 → Put (keysAt Z) (keysLong Z) t1 t2 y2 → Put (keysAt Z) (keysLong Z) t2 t3 y3
+      → PushReady (tables Z t3 .spare) 0 (4 * Z .joints) 0 p
+  spare-ready {t1} {t2} {t3} A B C =
+      let T = tables Z t in
+      let h1 : length t1 ≡ total Z = A .same-length ∙ S .long in
+      let h2 : length t2 ≡ total Z = B .same-length ∙ h1 in
+      let e : tables Z t3 .spare ≡ T .spare =
+      ap (λ (W : Tables). W .spare) (put-keys Z t2 t3 _ h2 C) ∙ ap (λ (W : Tables). W .spare) (put-keys Z t1 t2 _ h1 B) ∙ ap (λ (W : Tables). W .spare) (put-joints Z t t1 _ (S .long) A) in
+      rw e (free-ready Z (extents T) T (S .good) (sized Z t (S .long)) p pl hn)
+
+  pub joint-taken : {t1 t2 t3 t4 : List ℕ} → Put (jointsAt Z) (jointsLong Z) t t1 (removed (tables Z t .joints) 0 (4 * Z .joints) p)
+      → Put (keysAt Z) (keysLong Z) t1 t2 (writes (tables Z t1 .keys) (elemWords (8 * p)))
+      → Put (keysAt Z) (keysLong Z) t2 t3 (writes (tables Z t2 .keys) (elemWords (8 * p + 4)))
+      → Put (spareAt Z) (spareLong Z) t3 t4 (pushed (tables Z t3 .spare) 0 (4 * Z .joints) 0 p)
+      → JointTaken Z (joints-in Z (tables Z t) .home p) (joints-in Z (tables Z t) .place p) t t4
+  unfolding joint-remove
+  joint-taken {t1} {t2} {t3} {t4} A B C D =
+      let T = tables Z t in
+      let X = extents T in
+      let G = S .good in
+      let K = sized Z t (S .long) in
+      let h1 : length t1 ≡ total Z = A .same-length ∙ S .long in
+      let h2 : length t2 ≡ total Z = B .same-length ∙ h1 in
+      let h3 : length t3 ≡ total Z = C .same-length ∙ h2 in
+      let e1 = put-joints Z t t1 _ (S .long) A in
+      let e2 = put-keys Z t1 t2 _ h1 B ∙ ap (λ (W : Tables). keys-put W (writes (W .keys) (elemWords (8 * p)))) e1 in
+      let e3 = put-keys Z t2 t3 _ h2 C ∙ ap (λ (W : Tables). keys-put W (writes (W .keys) (elemWords (8 * p + 4)))) e2 in
+      let r : tables Z t4 ≡ T′ Z X T G K p pl hn = put-spare Z t3 t4 _ h3 D ∙ ap (λ (W : Tables). spare-put W (pushed (W .spare) 0 (4 * Z .joints) 0 p)) e3 in
+      let i = joints-in Z T .home p in
+      record {
+        steps =
+            steps-at t4 (joint-removed i (joints-in Z T .place p)) X _ r refl (D .same-length ∙ h3) (take-good Z X T G K p pl hn) (take-world Z X T G K p pl hn) (take-kept Z X T G K p pl hn)
+            (larger-refl X);
+        fewer = subst (λ (W : Tables). joints-in Z W .count i + 1 ≡ joints-in Z T .count i) (sym r) (P Z X T G K p pl hn .count-i);
+        stays = subst (Stays T) (sym r) (record { head = refl; slots = refl; members = refl; rows = refl; freed = refl; journal = refl; scan = refl; fit = refl });
+        contacts = subst (ContactsStay T) (sym r) (record { contacts = refl; touches = refl });
+      }

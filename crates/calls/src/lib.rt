@@ -3,15 +3,17 @@ ghost use Prim.Native.Nat.{_≤_};
 ghost use Rattle.kinds.specs.Number.{rig};
 ghost use Rattle.state.specs.Bodies.{put as putStep, flags as flagsStep, retire as retireStep, island as islandOf};
 ghost use Rattle.state.specs.Membership.{ensure as ensureStep, remove as removeStep};
-ghost use Rattle.state.specs.Links.{link-contact, unlink-contact};
+ghost use Rattle.state.specs.Links.{link-contact, unlink-contact, contact-edge-removed, link-joint, unlink-joint};
 ghost use Rattle.state.specs.Resolver.{resolve-removals};
 ghost use Rattle.tables.specs.Does.{Call, Asks, Reset};
 ghost use Rattle.calls.specs.Refusal.{noIsland};
+ghost use Rattle.calls.specs.Keys.{keyIs};
 ghost use Rattle.steps.specs.Steps.{handle};
 use kinds::Answer;
 use kinds::Edge;
 use kinds::Handle;
 use kinds::IslandAnswer;
+use kinds::JointKey;
 use kinds::Sizes;
 
 pub mod sized;
@@ -99,6 +101,35 @@ pub fn uncontact(t: &mut [u32], edge: Edge) -> Answer
 {
     let e = edge.0;
     sized::uncontact(t, Sizes::RIG, e)
+}
+
+// The edge `removed` is gone, and the edge `last` has taken its number.
+pub fn renumber(t: &mut [u32], removed: Edge, last: Edge) -> Answer
+    ensures { λ r. ⌜ Call rig (contact-edge-removed (removed .0) (last .0)) (now (t .entry)) r (now (t .exit)) ⌝ }
+{
+    let r = removed.0;
+    let l = last.0;
+    sized::renumber(t, Sizes::RIG, r, l)
+}
+
+// Links a joint between two bodies, merging their islands if they differ.
+pub fn joint(t: &mut [u32], key: JointKey, first: Handle, second: Handle) -> Answer
+    ensures { λ r. ⌜ Call rig (link-joint rig (keyIs key) (handle (first .slot .0) (first .generation)) (handle (second .slot .0) (second .generation))) (now (t .entry)) r (now (t .exit)) ⌝ }
+{
+    let slot1 = first.slot;
+    let s1 = slot1.0;
+    let g1 = first.generation;
+    let slot2 = second.slot;
+    let s2 = slot2.0;
+    let g2 = second.generation;
+    sized::joint(t, Sizes::RIG, key, s1, g1, s2, g2)
+}
+
+// Unlinks the joint of a key, and journals its removal.
+pub fn unjoint(t: &mut [u32], key: JointKey) -> Answer
+    ensures { λ r. ⌜ Call rig (unlink-joint rig (keyIs key)) (now (t .entry)) r (now (t .exit)) ⌝ }
+{
+    sized::unjoint(t, Sizes::RIG, key)
 }
 
 // Counts the journal's entries, and empties it.

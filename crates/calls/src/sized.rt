@@ -1,15 +1,18 @@
 // The calls at any sizes, on any words: the audit, and then the step on sound tables.
 ghost use mathlib.Core.Path.{_≡_};
+ghost use Prim.Native.Nat.{_/_, _%_};
 ghost use Rattle.state.specs.Bodies.{put as putStep, flags as flagsStep, retire as retireStep, island as islandOf};
 ghost use Rattle.state.specs.Membership.{ensure as ensureStep, remove as removeStep};
-ghost use Rattle.state.specs.Links.{link-contact, unlink-contact};
+ghost use Rattle.state.specs.Links.{link-contact, unlink-contact, contact-edge-removed, link-joint, unlink-joint};
 ghost use Rattle.state.specs.Resolver.{resolve-removals};
 ghost use Rattle.tables.specs.Does.{Call, Asks};
 ghost use Rattle.calls.specs.Refusal.{noIsland};
+ghost use Rattle.calls.specs.Keys.{keyIs};
 ghost use Rattle.steps.specs.Steps.{handle};
 use kinds::Answer;
 use kinds::Island;
 use kinds::IslandAnswer;
+use kinds::JointKey;
 use kinds::NONE;
 use kinds::Sizes;
 
@@ -119,4 +122,70 @@ pub fn contact(
         return Answer::BadTables;
     }
     links::link_contact_on(t, z, e, s1, g1, s2, g2)
+}
+
+pub fn renumber(t: &mut [u32], z: Sizes, removed: u32, last: u32) -> Answer
+    ensures { λ r. ⌜ Call z (contact-edge-removed removed last) (now (t .entry)) r (now (t .exit)) ⌝ }
+{
+    if !whole::sound(t, z) {
+        return Answer::BadTables;
+    }
+    renumbers::renumber_on(t, z, removed, last)
+}
+
+// The high and the low 32 bits of a multibody.
+pub fn high_half(multibody: u64) -> u32
+    ensures { λ r. ⌜ r ≡ multibody / 4294967296 ⌝ }
+{
+    (multibody / 4294967296) as u32
+}
+
+pub fn low_half(multibody: u64) -> u32
+    ensures { λ r. ⌜ r ≡ multibody % 4294967296 ⌝ }
+{
+    (multibody % 4294967296) as u32
+}
+
+pub fn joint(
+    t: &mut [u32],
+    z: Sizes,
+    key: JointKey,
+    s1: u32,
+    g1: u32,
+    s2: u32,
+    g2: u32,
+) -> Answer
+    ensures { λ r. ⌜ Call z (link-joint z (keyIs key) (handle s1 g1) (handle s2 g2)) (now (t .entry)) r (now (t .exit)) ⌝ }
+{
+    if !whole::sound(t, z) {
+        return Answer::BadTables;
+    }
+    match key {
+        JointKey::Impulse { index, generation } => {
+            links::link_joint_on(t, z, 0, index, generation, 0, s1, g1, s2, g2)
+        }
+        JointKey::Chain { multibody, ordinal } => {
+            let high = high_half(multibody);
+            let low = low_half(multibody);
+            links::link_joint_on(t, z, 1, high, low, ordinal, s1, g1, s2, g2)
+        }
+    }
+}
+
+pub fn unjoint(t: &mut [u32], z: Sizes, key: JointKey) -> Answer
+    ensures { λ r. ⌜ Call z (unlink-joint z (keyIs key)) (now (t .entry)) r (now (t .exit)) ⌝ }
+{
+    if !whole::sound(t, z) {
+        return Answer::BadTables;
+    }
+    match key {
+        JointKey::Impulse { index, generation } => {
+            jointed::unlink_joint_on(t, z, 0, index, generation, 0)
+        }
+        JointKey::Chain { multibody, ordinal } => {
+            let high = high_half(multibody);
+            let low = low_half(multibody);
+            jointed::unlink_joint_on(t, z, 1, high, low, ordinal)
+        }
+    }
 }

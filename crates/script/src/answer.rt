@@ -46,6 +46,12 @@ fn call(t: &mut [u32], command: Command) -> Reply {
         Command::Island(h) => Reply::Island(calls::island(t, h)),
         Command::Ensure(h) => Reply::Answer(calls::ensure(t, h)),
         Command::Remove(h) => Reply::Answer(calls::remove(t, h)),
+        Command::Contact(e, h1, h2) => Reply::Answer(calls::contact(t, e, h1, h2)),
+        Command::Uncontact(e) => Reply::Answer(calls::uncontact(t, e)),
+        Command::Renumber { removed, last } => Reply::Answer(calls::renumber(t, removed, last)),
+        Command::Joint(k, h1, h2) => Reply::Answer(calls::joint(t, k, h1, h2)),
+        Command::Unjoint(k) => Reply::Answer(calls::unjoint(t, k)),
+        Command::Resolve => Reply::Answer(calls::resolve(t)),
         Command::Dump => Reply::Dump,
         _ => Reply::NotYet,
     }

@@ -5,6 +5,10 @@ ghost use Rattle.state.specs.Bodies.{put as putStep, flags as flagsStep, retire
 ghost use Rattle.state.specs.Membership.{ensure as ensureStep, remove as removeStep};
 ghost use Rattle.state.specs.Links.{link-contact, unlink-contact, contact-edge-removed, link-joint, unlink-joint};
 ghost use Rattle.state.specs.Resolver.{resolve-removals};
+ghost use Rattle.state.specs.Chain.{refresh-multibody-chain};
+ghost use Rattle.steps.specs.Chaining.{handlesFrom};
+ghost use lib.ListN.{length};
+ghost use Prim.Native.Nat.{_/_, _%_};
 ghost use Rattle.tables.specs.Does.{Call, Asks, Reset};
 ghost use Rattle.calls.specs.Refusal.{noIsland};
 ghost use Rattle.calls.specs.Keys.{keyIs};
@@ -130,6 +134,13 @@ pub fn unjoint(t: &mut [u32], key: JointKey) -> Answer
     ensures { λ r. ⌜ Call rig (unlink-joint rig (keyIs key)) (now (t .entry)) r (now (t .exit)) ⌝ }
 {
     sized::unjoint(t, Sizes::RIG, key)
+}
+
+// Unlinks the multibody's chain and links a new one over the bodies of the list, two words a handle.
+pub fn chain(t: &mut [u32], multibody: u64, list: &[u32]) -> Answer
+    ensures { λ r. ⌜ Call rig (refresh-multibody-chain rig (multibody / 4294967296) (multibody % 4294967296) (handlesFrom (now (list .entry)) 0 (length (now (list .entry)) / 2))) (now (t .entry)) r (now (t .exit)) ⌝ }
+{
+    sized::chain(t, Sizes::RIG, multibody, list)
 }
 
 // Counts the journal's entries, and empties it.

@@ -5,6 +5,9 @@ ghost use Rattle.state.specs.Bodies.{put as putStep, flags as flagsStep, retire
 ghost use Rattle.state.specs.Membership.{ensure as ensureStep, remove as removeStep};
 ghost use Rattle.state.specs.Links.{link-contact, unlink-contact, contact-edge-removed, link-joint, unlink-joint};
 ghost use Rattle.state.specs.Resolver.{resolve-removals};
+ghost use Rattle.state.specs.Chain.{refresh-multibody-chain};
+ghost use Rattle.steps.specs.Chaining.{handlesFrom};
+ghost use lib.ListN.{length};
 ghost use Rattle.tables.specs.Does.{Call, Asks};
 ghost use Rattle.calls.specs.Refusal.{noIsland};
 ghost use Rattle.calls.specs.Keys.{keyIs};
@@ -188,4 +191,20 @@ pub fn unjoint(t: &mut [u32], z: Sizes, key: JointKey) -> Answer
             jointed::unlink_joint_on(t, z, 1, high, low, ordinal)
         }
     }
+}
+
+// The list has two words a handle, its slot and its generation.
+pub fn chain(t: &mut [u32], z: Sizes, multibody: u64, list: &[u32]) -> Answer
+    ensures { λ r. ⌜ Call z (refresh-multibody-chain z (multibody / 4294967296) (multibody % 4294967296) (handlesFrom (now (list .entry)) 0 (length (now (list .entry)) / 2))) (now (t .entry)) r (now (t .exit)) ⌝ }
+{
+    if !whole::sound(t, z) {
+        return Answer::BadTables;
+    }
+    let n = list.len() / 2;
+    if n > (z.slots as usize) {
+        return Answer::JointsFull;
+    }
+    let high = high_half(multibody);
+    let low = low_half(multibody);
+    refresh::refresh_on(t, z, high, low, list, n as u32)
 }

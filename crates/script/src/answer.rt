@@ -30,12 +30,12 @@ pub fn answer_line(
     used: usize,
 ) -> usize {
     let command = command::parse(line, list);
-    let reply = call(t, command);
+    let reply = call(t, list, command);
     write_reply(t, list, out, used, number, reply)
 }
 
 // Makes the call that a line asks for. The calls that are still to come are not made yet.
-fn call(t: &mut [u32], command: Command) -> Reply {
+fn call(t: &mut [u32], list: &[u32], command: Command) -> Reply {
     match command {
         Command::Blank => Reply::Silent,
         Command::Bad => Reply::BadLine,
@@ -51,10 +51,20 @@ fn call(t: &mut [u32], command: Command) -> Reply {
         Command::Renumber { removed, last } => Reply::Answer(calls::renumber(t, removed, last)),
         Command::Joint(k, h1, h2) => Reply::Answer(calls::joint(t, k, h1, h2)),
         Command::Unjoint(k) => Reply::Answer(calls::unjoint(t, k)),
+        Command::Chain { multibody, handles } => refresh(t, list, multibody, handles),
         Command::Resolve => Reply::Answer(calls::resolve(t)),
         Command::Dump => Reply::Dump,
         _ => Reply::NotYet,
     }
+}
+
+// The handles of the line are the first words of the list.
+fn refresh(t: &mut [u32], list: &[u32], multibody: u64, handles: u32) -> Reply {
+    let n = 2 * (handles as usize);
+    if n > list.len() {
+        return Reply::BadLine;
+    }
+    Reply::Answer(calls::chain(t, multibody, &list[0..n]))
 }
 
 fn write_reply(

@@ -43,7 +43,7 @@ onward-then A B =
     record { bodies = B .bodies ∙ A .bodies; islands = omega arith; tracked = omega arith; places = omega arith; journal = omega arith }
 
 -- so no extent falls
-larger-of : (Z : Sizes) (t t′ : List ℕ) → Onward (worldOf Z t) (worldOf Z t′) → Larger (extents (tables Z t)) (extents (tables Z t′))
+pub larger-of : (Z : Sizes) (t t′ : List ℕ) → Onward (worldOf Z t) (worldOf Z t′) → Larger (extents (tables Z t)) (extents (tables Z t′))
 larger-of Z t t′ O =
     let s : length (worldOf Z t .bodies) ≡ length (worldOf Z t′ .bodies) = sym (ap length (O .bodies)) in
     let a = slots-is Z t in

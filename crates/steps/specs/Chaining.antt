@@ -6,7 +6,7 @@ use lib.ListN.{length}
 use Rattle.kinds.specs.declared.Sizes.{Sizes}
 use Rattle.kinds.specs.declared.Answer.{Answer}
 use Rattle.state.specs.World.{Handle, World, Step, done}
-use Rattle.state.specs.Chain.{linked, linkedAll}
+use Rattle.state.specs.Chain.{chainable, linked, linkedAll}
 use Rattle.lists.specs.Table.{pick}
 use mathlib.Core.Bool.{Bool}
 use Rattle.tables.specs.Layout.{tables, extents}
@@ -38,3 +38,9 @@ pub record Came (Z : Sizes) (t₀ t : List ℕ) (u : World) : Type 0 where
 -- the pairs that are left to link: the body before is `prev`, where there is one
 unfoldable pub linkRest : Sizes → ℕ → ℕ → Bool → ℕ → Handle → List Handle → World → World
 linkRest Z high low has o prev hs w = pick has (linked Z high low o prev hs w) (linkedAll Z high low hs w)
+
+-- a handle h of the list was seen: what is left to link is as it was, with h in front where a chain links it
+pub record LinkedOn (Z : Sizes) (high low : ℕ) (has : Bool) (o : ℕ) (prev h : Handle) (has′ : Bool) (o′ : ℕ) (prev′ : Handle) (t t′ : List ℕ) : Type 0 where
+  pub came : Came Z t t′ (worldOf Z t′)
+  pub rest : (hs : List Handle) → linkRest Z high low has′ o′ prev′ hs (worldOf Z t′) ≡ linkRest Z high low has o prev (pick (chainable (worldOf Z t) h) (h ∷ hs) hs) (worldOf Z t)
+  pub ordinal-le : o′ ≤ o + 1

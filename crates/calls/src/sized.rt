@@ -110,15 +110,7 @@ pub fn resolve(t: &mut [u32], z: Sizes) -> Answer
     resolves::resolve_on(t, z)
 }
 
-pub fn contact(
-    t: &mut [u32],
-    z: Sizes,
-    e: u32,
-    s1: u32,
-    g1: u32,
-    s2: u32,
-    g2: u32,
-) -> Answer
+pub fn contact(t: &mut [u32], z: Sizes, e: u32, s1: u32, g1: u32, s2: u32, g2: u32) -> Answer
     ensures { λ r. ⌜ Call z (link-contact z e (handle s1 g1) (handle s2 g2)) (now (t .entry)) r (now (t .exit)) ⌝ }
 {
     if !whole::sound(t, z) {
@@ -149,15 +141,7 @@ pub fn low_half(multibody: u64) -> u32
     (multibody % 4294967296) as u32
 }
 
-pub fn joint(
-    t: &mut [u32],
-    z: Sizes,
-    key: JointKey,
-    s1: u32,
-    g1: u32,
-    s2: u32,
-    g2: u32,
-) -> Answer
+pub fn joint(t: &mut [u32], z: Sizes, key: JointKey, s1: u32, g1: u32, s2: u32, g2: u32) -> Answer
     ensures { λ r. ⌜ Call z (link-joint z (keyIs key) (handle s1 g1) (handle s2 g2)) (now (t .entry)) r (now (t .exit)) ⌝ }
 {
     if !whole::sound(t, z) {

@@ -3,7 +3,7 @@
 # separated by |, default: the calls that exist). ORACLE_FOLDER is a built copy of ../shared/oracle (cargo build --release). Ends with
 # 'compared C commands, D differences'.
 set -u
-oracle=$1 seeds=$2 commands=${3:-reset|put|retire|flags|island|ensure|remove|contact|uncontact|renumber|joint|unjoint|resolve|dump}
+oracle=$1 seeds=$2 commands=${3:-reset|put|retire|flags|island|ensure|remove|contact|uncontact|renumber|joint|unjoint|chain|resolve|dump}
 work=$(mktemp -d)
 total=0 different=0
 for mode in small mid big pile edge; do

@@ -10,7 +10,7 @@ import glob
 import subprocess
 import sys
 
-KNOWN = "reset put retire flags island ensure remove contact uncontact renumber joint unjoint resolve dump".split()
+KNOWN = "reset put retire flags island ensure remove contact uncontact renumber joint unjoint chain resolve dump".split()
 
 
 def known(path):

@@ -9,7 +9,8 @@ ghost use Rattle.tables.specs.Decode.{worldOf};
 ghost use Rattle.tables.specs.Sound.{Sound};
 ghost use Rattle.tables.specs.Does.{Does};
 ghost use Rattle.steps.specs.Steps.{handle, Steps};
-ghost use Rattle.steps.specs.Linking.{tracking, contactOf, contact-push, contact-remove, journalled};
+ghost use Rattle.steps.specs.Linking.{tracking, contactOf, contact-push, journalled};
+ghost use Rattle.steps.specs.Loose.{Loosely, ContactGone};
 ghost use Rattle.steps.specs.Lives.{Lives};
 use kinds::Answer;
 use kinds::NONE;
@@ -82,8 +83,8 @@ pub fn push_contact(t: &mut [u32], z: Sizes, i: u32, e: u32, s1: u32, g1: u32, s
 
 // The linked edge e is taken out of its island's list, whose last link takes its place.
 pub fn take_contact(t: &mut [u32], z: Sizes, e: u32)
-    requires { ⌜ Sound z (now t) × (e < extents (tables z (now t)) .edges) × (contacts-in z (tables z (now t)) .home e ≢ none) ⌝ }
-    ensures { λ _. ⌜ Steps z (contact-remove (contacts-in z (tables z (now (t .entry))) .home e) (contacts-in z (tables z (now (t .entry))) .place e)) (now (t .entry)) (now (t .exit)) ⌝ }
+    requires { ⌜ Loosely z (now t) × (e < extents (tables z (now t)) .edges) × (contacts-in z (tables z (now t)) .home e ≢ none) ⌝ }
+    ensures { λ _. ⌜ ContactGone z e (now (t .entry)) (now (t .exit)) ⌝ }
 {
     store::remove(t, z, Table::Contacts, e);
     store::set4(

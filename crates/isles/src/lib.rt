@@ -8,7 +8,8 @@ ghost use Rattle.tables.specs.Layout.{tables, total, extents, members-in, freed
 ghost use Rattle.tables.specs.Decode.{worldOf, flag};
 ghost use Rattle.tables.specs.Sound.{Sound};
 ghost use Rattle.tables.specs.Does.{Does};
-ghost use Rattle.steps.specs.Steps.{handle, islandBlanked, grow-island, ready, found, Steps};
+ghost use Rattle.steps.specs.Steps.{handle, islandBlanked, found, Steps};
+ghost use Rattle.steps.specs.Loose.{Loosely, IslandMore, MadeReady};
 use kinds::Answer;
 use kinds::NONE;
 use kinds::Sizes;
@@ -57,8 +58,8 @@ fn blank_island(t: &mut [u32], z: Sizes, m: u32)
 
 // The island number m, the first that was never used, comes into use, freed.
 pub fn grow_island(t: &mut [u32], z: Sizes, m: u32)
-    requires { ⌜ Sound z (now t) × (m ≡ extents (tables z (now t)) .islands) × (m < z .islands) × (m < none) ⌝ }
-    ensures { λ _. ⌜ Steps z grow-island (now (t .entry)) (now (t .exit)) ⌝ }
+    requires { ⌜ Loosely z (now t) × (m ≡ extents (tables z (now t)) .islands) × (m < z .islands) × (m < none) ⌝ }
+    ensures { λ _. ⌜ IslandMore z (now (t .entry)) (now (t .exit)) ⌝ }
 {
     blank_island(t, z, m);
     store::push(t, z, Table::Freed, 0, m);
@@ -67,8 +68,8 @@ pub fn grow_island(t: &mut [u32], z: Sizes, m: u32)
 
 // There is a free number: the next unused one comes in where the stack is empty.
 pub fn make_ready(t: &mut [u32], z: Sizes)
-    requires { ⌜ Sound z (now t) × (freed-in z (tables z (now t)) .count 0 ≡ 0 → (extents (tables z (now t)) .islands < z .islands) × (extents (tables z (now t)) .islands < none)) ⌝ }
-    ensures { λ _. ⌜ Steps z ready (now (t .entry)) (now (t .exit)) ⌝ }
+    requires { ⌜ Loosely z (now t) × (freed-in z (tables z (now t)) .count 0 ≡ 0 → (extents (tables z (now t)) .islands < z .islands) × (extents (tables z (now t)) .islands < none)) ⌝ }
+    ensures { λ _. ⌜ MadeReady z (now (t .entry)) (now (t .exit)) ⌝ }
 {
     let c = store::count(t, z, Table::Freed, 0);
     if c != 0 {

@@ -10,7 +10,8 @@ ghost use Rattle.tables.specs.Sound.{Sound};
 ghost use Rattle.tables.specs.Does.{Does};
 ghost use Rattle.steps.specs.Steps.{handle, Steps};
 ghost use Rattle.steps.specs.Linking.{journalled, place-ready, joint-push};
-ghost use Rattle.steps.specs.Places.{KeyRule, HasKey, LinkedAs, Unlinked, Finds, grow-place, JointTaken};
+ghost use Rattle.steps.specs.Places.{KeyRule, HasKey, LinkedAs, Unlinked, Finds, grow-place};
+ghost use Rattle.steps.specs.Loose.{Loosely, JointGone};
 use kinds::Answer;
 use kinds::NONE;
 use kinds::Sizes;
@@ -137,8 +138,8 @@ pub fn push_joint(
 
 // The link at the place p goes, and the place is free.
 pub fn take_joint(t: &mut [u32], z: Sizes, p: u32)
-    requires { ⌜ Sound z (now t) × (p < extents (tables z (now t)) .joints) × (joints-in z (tables z (now t)) .home p ≢ none) ⌝ }
-    ensures { λ _. ⌜ JointTaken z (joints-in z (tables z (now (t .entry))) .home p) (joints-in z (tables z (now (t .entry))) .place p) (now (t .entry)) (now (t .exit)) ⌝ }
+    requires { ⌜ Loosely z (now t) × (p < extents (tables z (now t)) .joints) × (joints-in z (tables z (now t)) .home p ≢ none) ⌝ }
+    ensures { λ _. ⌜ JointGone z p (now (t .entry)) (now (t .exit)) ⌝ }
 {
     store::remove(t, z, Table::Joints, p);
     store::set4(t, z, Table::Keys, 8 * (p as usize), NONE, NONE, NONE, NONE);

@@ -56,7 +56,7 @@ contact-dropped {Z} {t} {t1} {t2} i e S il c q A B =
     let T = tables Z t in
     let X = extents T in
     let L = contact-last i e S il c q in
-    let r = contact-out e S A B in
+    let r = contact-out Z e (S .long) A B in
     record {
       steps = steps-as (contact-remove (contacts-in Z T .home e) (contacts-in Z T .place e)) (drop-contact i) (last-out i e S il c q) (contact-taken e S (L .elem-lt) (L .held) A B);
       fewer =

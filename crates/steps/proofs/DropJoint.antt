@@ -28,9 +28,10 @@ use Rattle.steps.specs.Linking.{joint-remove}
 use Rattle.steps.proofs.Good.{world-is}
 use Rattle.steps.proofs.Then.{refused, does-as, does-then}
 use Rattle.steps.proofs.At.{steps-as}
+use Rattle.steps.proofs.Loose.{sound-loose}
 use Rattle.steps.proofs.Names.{island-at}
 use Rattle.steps.proofs.LastOut.{snoc, set-again, LastIn, last-in, no-values}
-use Rattle.steps.proofs.TakeJoint.{spare-ready, joint-taken}
+use Rattle.steps.proofs.TakeJoint.{spare-ready, joint-gone}
 use Rattle.steps.proofs.Stays.{stays-refl, stays-then}
 
 -- the last link is one that is taken
@@ -58,7 +59,7 @@ joint-last {Z} {t} i p S il c q = let T = tables Z t in last-in (Z .joints) (ext
 
 pub place-ready : {Z : Sizes} {t t1 t2 t3 y1 y2 y3 : List ℕ} (i p : ℕ) → Sound Z t → i < extents (tables Z t) .islands → 0 < joints-in Z (tables Z t) .count i → p ≡ joints-in Z (tables Z t) .last i
     → Put (jointsAt Z) (jointsLong Z) t t1 y1 → Put (keysAt Z) (keysLong Z) t1 t2 y2 → Put (keysAt Z) (keysLong Z) t2 t3 y3 → PushReady (tables Z t3 .spare) 0 (4 * Z .joints) 0 p
-place-ready i p S il c q A B C = let L = joint-last i p S il c q in spare-ready p S (L .elem-lt) (L .held) A B C
+place-ready i p S il c q A B C = let L = joint-last i p S il c q in spare-ready p (sound-loose S) (L .elem-lt) (L .held) A B C
 
 pub joint-dropped : {Z : Sizes} {t t1 t2 t3 t4 : List ℕ} (i p : ℕ) → Sound Z t → i < extents (tables Z t) .islands → 0 < joints-in Z (tables Z t) .count i → p ≡ joints-in Z (tables Z t) .last i
     → Put (jointsAt Z) (jointsLong Z) t t1 (removed (tables Z t .joints) 0 (4 * Z .joints) p)
@@ -68,7 +69,7 @@ pub joint-dropped : {Z : Sizes} {t t1 t2 t3 t4 : List ℕ} (i p : ℕ) → Sound
 joint-dropped {Z} {t} i p S il c q A B C D =
     let E = joints-in Z (tables Z t) in
     let L = joint-last i p S il c q in
-    let J = joint-taken p S (L .elem-lt) (L .held) A B C D in
+    let J = joint-gone p (sound-loose S) (L .elem-lt) (L .held) A B C D .taken S in
     let n = links-long i S il in
     let e : E .place p + 1 ≡ E .count i = rw q (full (S .good .joints-wf .rules) i il (omega arith) .last-place) in
     record {

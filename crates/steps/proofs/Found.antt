@@ -28,9 +28,11 @@ use Rattle.tables.proofs.Puts.{Sized, sized, put-members, put-rows, put-freed}
 use Rattle.tables.proofs.Chains.{Added, Taken, added, taken, push-ready, remove-ready, nil}
 use Rattle.tables.proofs.Frame.{larger-refl}
 use Rattle.steps.specs.Steps.{handle, Steps, one-island, readied, ready, found}
+use Rattle.steps.specs.Loose.{OpenAt, Loose}
 use Rattle.steps.proofs.Good.{island-is}
 use Rattle.steps.proofs.Then.{refused, does-as, does-then}
 use Rattle.steps.proofs.At.{steps-at}
+use Rattle.steps.proofs.Loose.{good-loose}
 use Rattle.steps.proofs.Names.{Named, named-is, home-is}
 use Rattle.steps.proofs.Put.{body-word}
 use Rattle.steps.proofs.Isle.{set-aside, Change, changed, change-good, change-world, change-kept}
@@ -43,7 +45,7 @@ inside (x ∷ xs) d e zero h = refl
 inside (x ∷ xs) d e (suc k) h = inside xs d e k (omega arith)
 
 -- ---- the last freed number
-module _ (Z : Sizes) (X : Extents) (T : Tables) (G : Good Z X T) (i : ℕ) (c : 0 < freed-in Z T .count 0) (q : i ≡ freed-in Z T .last 0) where
+module _ (Z : Sizes) (X : Extents) (T : Tables) (G : Loose Z X T) (i : ℕ) (c : 0 < freed-in Z T .count 0) (q : i ≡ freed-in Z T .last 0) where
   abbrev E : View
   E = freed-in Z T
 
@@ -59,42 +61,42 @@ module _ (Z : Sizes) (X : Extents) (T : Tables) (G : Good Z X T) (i : ℕ) (c : 
   end : Full (X .islands) 1 E 0
   end = full RF 0 (omega arith) (omega arith)
 
-  il : i < X .islands
+  pub il : i < X .islands
   il = rw q (end .last-lt)
 
-  home-0 : E .home i ≡ 0
+  pub home-0 : E .home i ≡ 0
   home-0 = rw q (end .last-home)
 
   place-i : E .place i ≡ length xs - 1
   place-i = let a : E .place i + 1 ≡ E .count 0 = rw q (end .last-place) in let b = length-list RF 0 (omega arith) in omega arith
 
-  held : E .home i ≢ none
+  pub held : E .home i ≢ none
   held e = let h = home-0 in omega arith
 
-  take-ready : RemoveReady (T .freed) 0 (4 * Z .islands) i
+  pub take-ready : RemoveReady (T .freed) 0 (4 * Z .islands) i
   take-ready = remove-ready (Z .islands) (G .freed-wf) i il held
 
-  freed : Freed (members-in Z T .count i) (contacts-in Z T .count i) (joints-in Z T .count i) (getD (T .rows) (3 * i) 0) (getD (T .rows) (3 * i + 1) 0) (getD (T .rows) (3 * i + 2) 0) (E .home i)
-  freed = ⊎-elim (λ x. absurd (held (x .not-freed))) (λ x. x) (G .island i il)
+  pub freed : Freed (members-in Z T .count i) (contacts-in Z T .count i) (joints-in Z T .count i) (getD (T .rows) (3 * i) 0) (getD (T .rows) (3 * i + 1) 0) (getD (T .rows) (3 * i + 2) 0) (E .home i)
+  freed = ⊎-elim (λ (x : OpenAt Z T i). absurd (held (x .not-freed))) (λ x. x) (G .island i il)
 
-  Q : Taken (Z .islands) (X .islands) 1 i (T .freed) F
+  pub Q : Taken (Z .islands) (X .islands) 1 i (T .freed) F
   Q = taken (Z .islands) (X .islands) 1 (T .freed) (G .freed-wf) i il held
 
-  rest : listOf (view F 0 (4 * Z .islands)) 0 ≡ dropLast xs
+  pub rest : listOf (view F 0 (4 * Z .islands)) 0 ≡ dropLast xs
   unfolding takenOut
   rest =
       let e : listOf (view F 0 (4 * Z .islands)) 0 ≡ takenOut xs (E .place i) = rw home-0 at (Q .list-e) in
       let p = place-i in
       e ∙ take-set-le (length xs - 1) xs (E .place i) _ (omega arith)
 
-  number : i ≡ lastOf top xs
+  pub number : i ≡ lastOf top xs
   number =
       let l = length-list RF 0 (omega arith) in
       let p = place-i in
       sym (list-of RF 0 (omega arith) i il home-0) ∙ ap (λ (k : ℕ). getD xs k 0) p ∙ inside xs 0 top (length xs - 1) (omega arith)
 
   -- ---- becomes an island of the body in slot s
-  module _ (K : Sized Z T) (s z : ℕ) (sl : s < X .slots) (sb : members-in Z T .home s ≡ none) (sg : getD (T .slots) (5 * s) 0 ≢ none) (zl : z ≤ 1) where
+  module _ (U : Good Z X T) (K : Sized Z T) (s z : ℕ) (sl : s < X .slots) (sb : members-in Z T .home s ≡ none) (sg : getD (T .slots) (5 * s) 0 ≢ none) (zl : z ≤ 1) where
     abbrev M : List ℕ
     M = pushed (T .members) 0 (4 * Z .slots) i s
 
@@ -126,7 +128,7 @@ module _ (Z : Sizes) (X : Extents) (T : Tables) (G : Good Z X T) (i : ℕ) (c : 
 
     found-good : Good Z X (changed Z X T s i M R F)
     found-good =
-        change-good Z X T s i M R F found-change G sg
+        change-good Z X T s i M R F found-change U sg
         (inl (record { some = (let e = A .view-is .count-i in omega arith); sleeping-flag = rw row-z zl; not-freed = Q .home-e }))
 
     found-world : decode Z X (changed Z X T s i M R F) ≡ island-set (free-set (decode Z X T) (dropLast xs)) (lastOf top xs) (singleton s (flag z))
@@ -151,13 +153,13 @@ module _ (Z : Sizes) (X : Extents) (T : Tables) (G : Good Z X T) (i : ℕ) (c : 
 -- ---- the step
 module _ {Z : Sizes} {t : List ℕ} (i : ℕ) (S : Sound Z t) (c : 0 < freed-in Z (tables Z t) .count 0) (q : i ≡ freed-in Z (tables Z t) .last 0) where
   pub found-lt : i < extents (tables Z t) .islands
-  found-lt = il Z (extents (tables Z t)) (tables Z t) (S .good) i c q
+  found-lt = il Z (extents (tables Z t)) (tables Z t) (good-loose (S .good)) i c q
 
   pub found-fits : i < Z .islands
   found-fits = let a = found-lt in let b = S .good .islands-le in omega arith
 
   pub found-remove-ready : RemoveReady (tables Z t .freed) 0 (4 * Z .islands) i
-  found-remove-ready = take-ready Z (extents (tables Z t)) (tables Z t) (S .good) i c q
+  found-remove-ready = take-ready Z (extents (tables Z t)) (tables Z t) (good-loose (S .good)) i c q
 
   pub found-push-ready : {t1 ys : List ℕ} (s : ℕ) → s < extents (tables Z t) .slots → members-in Z (tables Z t) .home s ≡ none → Put (freedAt Z) (freedLong Z) t t1 ys
       → PushReady (tables Z t1 .members) 0 (4 * Z .slots) i s
@@ -173,7 +175,8 @@ unfolding found
 founded {Z} {t} {t1} {t2} {t3} s i z S sl sb sg c q zl P1 P2 P3 =
     let T = tables Z t in
     let X = extents T in
-    let G = S .good in
+    let G = good-loose (S .good) in
+    let U = S .good in
     let K = sized Z t (S .long) in
     let h1 : length t1 ≡ total Z = P1 .same-length ∙ S .long in
     let h2 : length t2 ≡ total Z = P2 .same-length ∙ h1 in
@@ -181,9 +184,9 @@ founded {Z} {t} {t1} {t2} {t3} s i z S sl sb sg c q zl P1 P2 P3 =
     let e2 = put-members Z t1 t2 _ h1 P2 ∙ ap (λ (W : Tables). members-put W (pushed (W .members) 0 (4 * Z .slots) i s)) e1 in
     let e3 = put-rows Z t2 t3 _ h2 P3 ∙ ap (λ (W : Tables). rows-put W (set (W .rows) (3 * i + 2) z)) e2 in
     steps-at t3 (λ w. island-set (free-set w (dropLast (w .free-islands))) (lastOf top (w .free-islands)) (singleton s (flag z))) X _ e3 refl (P3 .same-length ∙ h2)
-    (found-good Z X T G i c q K s z sl sb sg zl)
-    (found-world Z X T G i c q K s z sl sb sg zl)
-    (found-kept Z X T G i c q K s z sl sb sg zl)
+    (found-good Z X T G i c q U K s z sl sb sg zl)
+    (found-world Z X T G i c q U K s z sl sb sg zl)
+    (found-kept Z X T G i c q U K s z sl sb sg zl)
     (larger-refl X)
 
 -- ---- who may join, in the words of the tables

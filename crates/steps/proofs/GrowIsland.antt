@@ -18,11 +18,11 @@ use Rattle.lists.proofs.Pigeon.{pigeon}
 use Rattle.frame.specs.Part.{Put}
 use Rattle.kinds.specs.declared.Sizes.{Sizes}
 use Rattle.state.specs.Plain.{empty, has}
-use Rattle.state.specs.World.{Body, noBody, Island, noIsland, World, bodyOf, islandOf, islandBelow}
+use Rattle.state.specs.World.{Body, noBody, Island, noIsland, World, done, bodyOf, islandOf, islandBelow}
 use Rattle.tables.specs.Layout.{Tables, tables, total, headAt, headLong, membersAt, membersLong, contactsAt, contactsLong, jointsAt, jointsLong, rowsAt, rowsLong, scanAt, scanLong, fitAt, fitLong, freedAt, freedLong, head-put, contacts-put, joints-put, rows-put, scan-put, fit-put, freed-put, Extents, extents, members-in, freed-in, scan-in, elemWords, listWords}
 use Rattle.tables.specs.Decode.{flag, bodyAt, tabulate, observedAt, islandIn, decode, worldOf}
 use Rattle.tables.specs.Rule.{ScanRule, EdgeRule, JointRule}
-use Rattle.tables.specs.Sound.{IslandAt, SeenAt, Good, Sound}
+use Rattle.tables.specs.Sound.{SeenAt, Sound}
 use Rattle.tables.specs.Does.{Kept}
 use Rattle.tables.proofs.Puts.{Sized, sized, put-head, put-members, put-contacts, put-joints, put-rows, put-scan, put-fit, put-freed}
 use Rattle.tables.proofs.Tab.{length-tabulate, tabulate-same}
@@ -30,11 +30,13 @@ use Rattle.tables.proofs.Chains.{Grown, Added, elem-grown, elem-home, list-grow
 use Rattle.tables.proofs.Unique.{slots-is}
 use Rattle.tables.proofs.Frame.{larger-refl, kept-then, kept-head, kept-members, kept-contacts, kept-joints, kept-rows, kept-scan, kept-fit, kept-freed, extents-is}
 use Rattle.steps.specs.Steps.{Steps, rowWords, islandBlanked, one-island, grow-island, readied, ready}
+use Rattle.steps.specs.Loose.{LooseAt, Loose, Loosely, Peopled, BodiesStay, NumbersStay, IslandMore, MadeReady}
 use Rattle.steps.proofs.Good.{island-is, world-is, slot-rule, head-rule}
-use Rattle.steps.proofs.At.{steps-at, steps-none, steps-as}
+use Rattle.steps.proofs.At.{steps-none, steps-as}
+use Rattle.steps.proofs.Loose.{loose-rule, sound-loose, peopled, moves-at, moves-as, moves-none, moved-steps}
 use Rattle.steps.proofs.Names.{home-is}
 use Rattle.steps.proofs.Put.{body-word}
-use Rattle.steps.proofs.Isle.{Aside, row-aside, row-0, row-1, row-2, Same, same-rule, same-island}
+use Rattle.steps.proofs.Isle.{Aside, row-aside, row-0, row-1, row-2, Same, same-island}
 
 -- ---- the blank words, one after the other
 pub blanked : (Z : Sizes) {t t1 t2 t3 t4 t5 t6 t7 : List ℕ} (m : ℕ) → length t ≡ total Z
@@ -79,7 +81,7 @@ map-same f g (x ∷ l) h = rw (h 0 (omega arith), map-same f g l (λ p k. h (suc
 abbrev pub with-island : Extents → Extents
 with-island X = record { slots = X .slots; islands = X .islands + 1; edges = X .edges; joints = X .joints; journal = X .journal }
 
-module _ (Z : Sizes) (X : Extents) (T : Tables) (G : Good Z X T) (K : Sized Z T) (l : X .islands < Z .islands) (ms : X .islands < none) where
+module _ (Z : Sizes) (X : Extents) (T : Tables) (G : Loose Z X T) (K : Sized Z T) (l : X .islands < Z .islands) (ms : X .islands < none) where
   abbrev m : ℕ
   m = X .islands
 
@@ -157,8 +159,8 @@ module _ (Z : Sizes) (X : Extents) (T : Tables) (G : Good Z X T) (K : Sized Z T)
         freed = AF .view-is .home-o i (omega arith) (omega arith) ∙ CF .agrees .home i h;
       }
 
-  grow-good : Good Z (with-island X) T′
-  grow-good =
+  grow-loose : Loose Z (with-island X) T′
+  grow-loose =
       record {
         enough = G .enough;
         slots-le = G .slots-le;
@@ -176,7 +178,7 @@ module _ (Z : Sizes) (X : Extents) (T : Tables) (G : Good Z X T) (K : Sized Z T)
         island = λ i h.
             either i m
             (λ q.
-            subst (IslandAt Z T′) (sym q)
+            subst (LooseAt Z T′) (sym q)
             (inr
             (record {
               no-body = list-count (Z .slots) (X .slots) m (Z .islands) (T .members) (G .members-wf) l ms (K .members-length);
@@ -187,7 +189,9 @@ module _ (Z : Sizes) (X : Extents) (T : Tables) (G : Good Z X T) (K : Sized Z T)
               not-sleeping = row-2 (T .rows) m 0 0 0 inside;
               in-stack = AF .view-is .home-e;
             })))
-            (λ d. same-rule (old i (omega arith)) (G .island i (omega arith)));
+            (λ d.
+            let o = old i (omega arith) in
+            loose-rule (o .body-count) (o .contact-count) (o .joint-count) (o .removals) (o .denied) (o .sleeping) (o .freed) (G .island i (omega arith)));
         seen = λ i h.
             either i m
             (λ q.
@@ -237,35 +241,91 @@ module _ (Z : Sizes) (X : Extents) (T : Tables) (G : Good Z X T) (K : Sized Z T)
       (kept-then L (kept-fit (λ j h. fit-o j (omega arith)))
       (kept-then L (kept-freed (chain-then (omega arith) (omega arith) (CF .kept) (AF .kept))) kept-head))))))
 
+  -- where all had a body, all that are not free still have one: the new number is free
+  grow-peopled : Peopled Z X T → Peopled Z (with-island X) T′
+  grow-peopled P i h f =
+      either i m (λ q. absurd (let a = AF .view-is .home-e in let b : freed-in Z T′ .home m ≡ none = rw q at f in omega arith))
+      (λ d.
+      let o = old i (omega arith) in
+      let a = P i (omega arith) (sym (o .freed) ∙ f) in
+      let b = o .body-count in
+      omega arith)
+
+  grow-numbers : extents T ≡ X → NumbersStay Z T T′
+  grow-numbers e =
+      let q : extents T .islands ≡ m = ap (λ (x : Extents). x .islands) e in
+      let u : extents T′ .islands ≡ m + 1 = ap (λ (x : Extents). x .islands) (after e) in
+      record {
+        freed = λ j h. old j (omega arith) .freed;
+        sleeping = λ j h. old j (omega arith) .sleeping;
+        new = λ j h f.
+            either j m (λ d. absurd (let a = AF .view-is .home-e in let b : freed-in Z T′ .home m ≡ none = rw d at f in omega arith)) (λ d. omega arith);
+      }
+
 -- ---- the steps
-pub island-ready : {Z : Sizes} {t : List ℕ} (t1 : List ℕ) (m : ℕ) → Sound Z t → m ≡ extents (tables Z t) .islands → m < Z .islands → m < none
+pub island-ready : {Z : Sizes} {t : List ℕ} (t1 : List ℕ) (m : ℕ) → Loosely Z t → m ≡ extents (tables Z t) .islands → m < Z .islands → m < none
     → tables Z t1 ≡ islandBlanked Z (tables Z t) m → PushReady (tables Z t1 .freed) 0 (4 * Z .islands) 0 m
 island-ready {Z} {t} t1 m S q l ms e =
     let T = tables Z t in
     let X = extents T in
     let f : tables Z t1 .freed ≡ islandBlanked Z T m .freed = ap (λ (W : Tables). W .freed) e in
-    rw (f, q) (new-ready Z X T (S .good) (sized Z t (S .long)) (omega arith) (omega arith))
+    rw (f, q) (new-ready Z X T (S .loose) (sized Z t (S .long)) (omega arith) (omega arith))
 
-pub island-grown : {Z : Sizes} {t t1 t2 t3 : List ℕ} (m : ℕ) → Sound Z t → m ≡ extents (tables Z t) .islands → m < Z .islands → m < none → length t1 ≡ length t
-    → tables Z t1 ≡ islandBlanked Z (tables Z t) m
-    → Put (freedAt Z) (freedLong Z) t1 t2 (pushed (tables Z t1 .freed) 0 (4 * Z .islands) 0 m)
-    → Put (headAt Z) (headLong Z) t2 t3 (set (tables Z t2 .head) 1 (m + 1)) → Steps Z grow-island t t3
-unfolding grow-island
-island-grown {Z} {t} {t1} {t2} {t3} m S q l ms g e1 P Q =
-    let T = tables Z t in
-    let X = extents T in
-    let G = S .good in
-    let K = sized Z t (S .long) in
-    let h1 : length t1 ≡ total Z = g ∙ S .long in
-    let h2 : length t2 ≡ total Z = P .same-length ∙ h1 in
-    let lm : X .islands < Z .islands = omega arith in
-    let mm : X .islands < none = omega arith in
-    let e2 = put-freed Z t1 t2 _ h1 P ∙ ap (λ (W : Tables). freed-put W (pushed (W .freed) 0 (4 * Z .islands) 0 m)) e1 in
-    let e3 = put-head Z t2 t3 _ h2 Q ∙ ap (λ (W : Tables). head-put W (set (W .head) 1 (m + 1))) e2 in
-    let e : tables Z t3 ≡ T′ Z X T G K lm mm = rw q at e3 in
-    steps-at t3 one-island (with-island X) (T′ Z X T G K lm mm) e (after Z X T G K lm mm refl) (Q .same-length ∙ h2) (grow-good Z X T G K lm mm) (grow-world Z X T G K lm mm)
-    (grow-kept Z X T G K lm mm)
-    (record { slots = omega arith; islands = omega arith; edges = omega arith; joints = omega arith; journal = omega arith })
+module _ {Z : Sizes} {t t1 t2 t3 : List ℕ} (m : ℕ) (S : Loosely Z t) (q : m ≡ extents (tables Z t) .islands) (l : m < Z .islands) (ms : m < none) (g : length t1 ≡ length t)
+    (e1 : tables Z t1 ≡ islandBlanked Z (tables Z t) m)
+    (P : Put (freedAt Z) (freedLong Z) t1 t2 (pushed (tables Z t1 .freed) 0 (4 * Z .islands) 0 m))
+    (Q : Put (headAt Z) (headLong Z) t2 t3 (set (tables Z t2 .head) 1 (m + 1))) where
+  T0 : Tables
+  T0 = tables Z t
+
+  K0 : Sized Z (tables Z t)
+  K0 = sized Z t (S .long)
+
+  lm : extents (tables Z t) .islands < Z .islands
+  lm = omega arith
+
+  mm : extents (tables Z t) .islands < none
+  mm = omega arith
+
+  h2 : length t2 ≡ total Z
+  h2 = P .same-length ∙ g ∙ S .long
+
+  grown-out : tables Z t3 ≡ T′ Z (extents (tables Z t)) (tables Z t) (S .loose) K0 lm mm
+  grown-out =
+      let h1 : length t1 ≡ total Z = g ∙ S .long in
+      let e2 = put-freed Z t1 t2 _ h1 P ∙ ap (λ (W : Tables). freed-put W (pushed (W .freed) 0 (4 * Z .islands) 0 m)) e1 in
+      let e3 = put-head Z t2 t3 _ h2 Q ∙ ap (λ (W : Tables). head-put W (set (W .head) 1 (m + 1))) e2 in
+      rw q at e3
+
+  pub island-grown : IslandMore Z t t3
+  unfolding grow-island
+  island-grown =
+      let T = tables Z t in
+      let X = extents T in
+      let G = S .loose in
+      let M =
+      moves-at t3 one-island (with-island X) (T′ Z X T G K0 lm mm) grown-out (after Z X T G K0 lm mm refl) (Q .same-length ∙ h2) (grow-loose Z X T G K0 lm mm) (grow-world Z X T G K0 lm mm)
+      (grow-kept Z X T G K0 lm mm)
+      (record { slots = omega arith; islands = omega arith; edges = omega arith; joints = omega arith; journal = omega arith }) in
+      let A = CM Z X T G K0 lm mm in
+      record {
+        moves = M;
+        steps = λ U.
+            moved-steps one-island M
+            (subst (λ (W : Tables). Peopled Z (extents W) W) (sym grown-out)
+            (subst (λ (Y : Extents). Peopled Z Y (T′ Z X T G K0 lm mm)) (sym (after Z X T G K0 lm mm refl)) (grow-peopled Z X T G K0 lm mm (peopled (U .good)))));
+        stays =
+            subst (BodiesStay Z T) (sym grown-out)
+            (record {
+              slots-in-use = head-o Z X T G K0 lm mm 0 (omega arith);
+              slots = refl;
+              home = A .agrees .home;
+              place = A .agrees .place;
+              count = A .agrees .count;
+              body-list = A .lists;
+            });
+        numbers = subst (NumbersStay Z T) (sym grown-out) (grow-numbers Z X T G K0 lm mm refl);
+      }
 
 -- ---- there is a free number
 pub empty-yes : {A : Type 0} (xs : List A) → length xs ≡ 0 → empty xs ≡ true
@@ -276,19 +336,27 @@ pub empty-no : {A : Type 0} (xs : List A) → length xs ≢ 0 → empty xs ≡ f
 empty-no [] h = absurd (h refl)
 empty-no (x ∷ xs) h = refl
 
-pub free-count : {Z : Sizes} {t : List ℕ} → Sound Z t → length (worldOf Z t .free-islands) ≡ freed-in Z (tables Z t) .count 0
+pub free-count : {Z : Sizes} {t : List ℕ} → Loosely Z t → length (worldOf Z t .free-islands) ≡ freed-in Z (tables Z t) .count 0
 unfolding worldOf
-free-count S = length-list (S .good .freed-wf .rules) 0 (omega arith)
+free-count S = length-list (S .loose .freed-wf .rules) 0 (omega arith)
 
-pub ready-now : {Z : Sizes} {t : List ℕ} → Sound Z t → freed-in Z (tables Z t) .count 0 ≢ 0 → Steps Z ready t t
+bodies-stay : {Z : Sizes} {T : Tables} → BodiesStay Z T T
+bodies-stay = record { slots-in-use = refl; slots = refl; home = λ s h. refl; place = λ s h. refl; count = λ i h. refl; body-list = λ i h. refl }
+
+numbers-stay : {Z : Sizes} {T : Tables} → NumbersStay Z T T
+numbers-stay = record { freed = λ j h. refl; sleeping = λ j h. refl; new = λ j h f. h }
+
+pub ready-now : {Z : Sizes} {t : List ℕ} → Loosely Z t → freed-in Z (tables Z t) .count 0 ≢ 0 → MadeReady Z t t
 unfolding ready readied
 ready-now {Z} {t} S d =
-    steps-none readied S (let c = free-count S in rw (empty-no (worldOf Z t .free-islands) (omega arith)))
+    let e : readied (worldOf Z t) ≡ worldOf Z t = (let c = free-count S in rw (empty-no (worldOf Z t .free-islands) (omega arith))) in
+    record { moves = moves-as (λ w. w) readied (sym e) (moves-none S); steps = λ U. steps-none readied U e; stays = bodies-stay; numbers = numbers-stay }
 
-pub ready-grown : {Z : Sizes} {t t′ : List ℕ} → freed-in Z (tables Z t) .count 0 ≡ 0 → Sound Z t → Steps Z grow-island t t′ → Steps Z ready t t′
+pub ready-grown : {Z : Sizes} {t t′ : List ℕ} → freed-in Z (tables Z t) .count 0 ≡ 0 → Loosely Z t → IslandMore Z t t′ → MadeReady Z t t′
 unfolding ready readied grow-island
 ready-grown {Z} {t} z S D =
-    steps-as grow-island ready (let c = free-count S in rw (empty-yes (worldOf Z t .free-islands) (omega arith))) D
+    let e : readied (worldOf Z t) ≡ one-island (worldOf Z t) = (let c = free-count S in rw (empty-yes (worldOf Z t .free-islands) (omega arith))) in
+    record { moves = moves-as one-island readied (sym e) (D .moves); steps = λ U. steps-as grow-island ready (ap done (sym e)) (D .steps U); stays = D .stays; numbers = D .numbers }
 
 -- where no number is free and a body in use is in no island, a number is left: every island in use has a body, and these differ
 pub room-left : {Z : Sizes} {t : List ℕ} (s : ℕ) → Sound Z t → freed-in Z (tables Z t) .count 0 ≡ 0 → s < extents (tables Z t) .slots → members-in Z (tables Z t) .home s ≡ none
@@ -375,7 +443,7 @@ ready-free {Z} {t} {t′} S D =
     let ss : extents (tables Z t′) .slots ≡ extents (tables Z t) .slots = sym (slots-is Z t′) ∙ ap length bs ∙ slots-is Z t in
     let bo : (s : ℕ) → bodyOf (worldOf Z t′) s ≡ bodyOf w s = λ s. ap (λ (x : List Body). getD x s noBody) bs in
     record {
-      some = (let c = free-count (D .does .sound) in omega arith);
+      some = (let c = free-count (sound-loose (D .does .sound)) in omega arith);
       slots = ss;
       body = bo;
       island = is;

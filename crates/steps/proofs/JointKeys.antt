@@ -21,6 +21,8 @@ use Rattle.tables.specs.Sound.{Good, Sound}
 use Rattle.tables.proofs.Tab.{length-tabulate}
 use Rattle.tables.proofs.Unique.{key-words}
 use Rattle.steps.specs.Places.{KeyRule, HasKey, LinkedAs, KeyAt, Unlinked, Finds}
+use Rattle.steps.specs.Loose.{Loose}
+use Rattle.steps.proofs.Loose.{good-loose}
 use Rattle.steps.proofs.Names.{island-at}
 
 -- ---- keys
@@ -92,7 +94,7 @@ value-at g (x ∷ xs) d zero h = refl
 value-at g (x ∷ xs) d (suc k) h = value-at g xs d k (omega arith)
 
 -- ---- the tables
-module _ (Z : Sizes) (X : Extents) (T : Tables) (G : Good Z X T) where
+module _ (Z : Sizes) (X : Extents) (T : Tables) (G : Loose Z X T) where
   abbrev S : View
   S = joints-in Z T
 
@@ -202,23 +204,23 @@ module _ (Z : Sizes) (X : Extents) (T : Tables) (G : Good Z X T) where
 module _ {Z : Sizes} {t : List ℕ} (kind a b c : ℕ) (S : Sound Z t) (K : KeyRule kind c) where
   pub joint-home-none : Unlinked Z (tables Z t) kind a b c → jointHome (worldOf Z t) (keyOf kind a b c) ≡ top
   unfolding worldOf
-  joint-home-none n = home-none Z (extents (tables Z t)) (tables Z t) (S .good) kind a b c K n
+  joint-home-none n = home-none Z (extents (tables Z t)) (tables Z t) (good-loose (S .good)) kind a b c K n
 
   module _ (p : ℕ) (A : KeyAt Z (tables Z t) kind a b c p) where
     pub joint-home : jointHome (worldOf Z t) (keyOf kind a b c) ≡ joints-in Z (tables Z t) .home p
     unfolding worldOf
-    joint-home = home-is Z (extents (tables Z t)) (tables Z t) (S .good) kind a b c K p (A .place-lt) (A .keyed)
+    joint-home = home-is Z (extents (tables Z t)) (tables Z t) (good-loose (S .good)) kind a b c K p (A .place-lt) (A .keyed)
 
     pub joint-place : keyPlace (islandAt (worldOf Z t) (joints-in Z (tables Z t) .home p) .joint-links) (keyOf kind a b c) ≡ joints-in Z (tables Z t) .place p
     unfolding worldOf
-    joint-place = place-is Z (extents (tables Z t)) (tables Z t) (S .good) kind a b c K p (A .place-lt) (A .keyed)
+    joint-place = place-is Z (extents (tables Z t)) (tables Z t) (good-loose (S .good)) kind a b c K p (A .place-lt) (A .keyed)
 
     pub joint-link : getD (islandAt (worldOf Z t) (joints-in Z (tables Z t) .home p) .joint-links) (joints-in Z (tables Z t) .place p) noJoint ≡ jointAt (tables Z t .keys) p
     unfolding worldOf
-    joint-link = link-at Z (extents (tables Z t)) (tables Z t) (S .good) p (A .place-lt) (A .keyed .linked)
+    joint-link = link-at Z (extents (tables Z t)) (tables Z t) (good-loose (S .good)) p (A .place-lt) (A .keyed .linked)
 
     pub joint-home-lt : joints-in Z (tables Z t) .home p < extents (tables Z t) .islands
-    joint-home-lt = il Z (extents (tables Z t)) (tables Z t) (S .good) p (A .place-lt) (A .keyed .linked)
+    joint-home-lt = il Z (extents (tables Z t)) (tables Z t) (good-loose (S .good)) p (A .place-lt) (A .keyed .linked)
 
   -- the home in the state says which of the two it is
   pub home-unlinked : jointHome (worldOf Z t) (keyOf kind a b c) ≡ top → Unlinked Z (tables Z t) kind a b c

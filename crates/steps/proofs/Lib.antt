@@ -2,6 +2,7 @@
 pub mod Good
 pub mod Then
 pub mod At
+pub mod Loose
 pub mod Slot
 pub mod GrowSlot
 pub mod Names

@@ -18,16 +18,19 @@ use Rattle.state.specs.Links.{contacts-set, contact-pushed, contact-removed}
 use Rattle.tables.specs.Layout.{Tables, tables, total, contactsAt, contactsLong, touchesAt, touchesLong, contacts-put, touches-put, Extents, extents, members-in, contacts-in, elemWords}
 use Rattle.tables.specs.Decode.{contactAt, islandIn, decode}
 use Rattle.tables.specs.Rule.{EdgeRule}
-use Rattle.tables.specs.Sound.{EdgeAt, IslandAt, Good, Sound}
+use Rattle.tables.specs.Sound.{EdgeAt, Sound}
 use Rattle.tables.specs.Does.{ChainKept, Kept}
 use Rattle.tables.proofs.Puts.{Sized, sized, put-contacts, put-touches}
 use Rattle.tables.proofs.Chains.{Added, Taken, added, taken, push-ready, remove-ready}
 use Rattle.tables.proofs.Tab.{tabulate-set}
 use Rattle.tables.proofs.Frame.{larger-refl, kept-then, kept-contacts, kept-touches}
 use Rattle.steps.specs.Steps.{Steps}
+use Rattle.steps.specs.Drops.{Stays, JointsStay}
+use Rattle.steps.specs.Loose.{OpenAt, LooseAt, Loose, Loosely, Peopled, Moves, Below, ContactGone}
 use Rattle.steps.specs.Linking.{contactOf, contact-push, contact-remove}
 use Rattle.steps.proofs.Good.{island-is, world-is, island-rule}
 use Rattle.steps.proofs.At.{steps-at}
+use Rattle.steps.proofs.Loose.{loose-rule, lives-open, good-loose, loose-good, peopled, sound-loose, moves-at, moved-steps, below-taken}
 use Rattle.steps.proofs.Names.{listed-lt, island-at}
 use Rattle.steps.proofs.LastOut.{map-same, blanked}
 use Rattle.steps.proofs.Touching.{value-at}
@@ -81,51 +84,49 @@ module _ (Z : Sizes) (X : Extents) (T : Tables) (i e : ℕ) (C U : List ℕ) whe
         let a : P .home (getD (listOf P j) p 0) ≡ j = list-at R j jl p (rw (length-list R j jl) at l) .home-is in
         link (getD (listOf P j) p 0) (λ q. d (ap (P .home) (sym q) ∙ a)))
 
-    module _ (G : Good Z X T) (il : i < X .islands) where
-      touched-good : members-in Z T .count i ≢ 0 → EdgeAt Z touched e → Good Z X touched
-      touched-good c r =
-          record {
-            enough = G .enough;
-            slots-le = G .slots-le;
-            islands-le = G .islands-le;
-            edges-le = G .edges-le;
-            joints-le = G .joints-le;
-            journal-le = G .journal-le;
-            members-wf = G .members-wf;
-            freed-wf = G .freed-wf;
-            contacts-wf = A .wf;
-            joints-wf = G .joints-wf;
-            spare-wf = G .spare-wf;
-            scan-wf = G .scan-wf;
-            slot = G .slot;
-            island = λ j h.
-                either j i (λ s. subst (IslandAt Z touched) (sym s) (⊎-elim inl (λ f. absurd (c (f .no-body))) (G .island i il)))
-                (λ d. island-rule refl (A .count-o j h d) refl refl refl refl refl (G .island j h));
-            seen = G .seen;
-            edge = λ k h.
-                either k e (λ s. subst (EdgeAt Z touched) (sym s) r)
-                (λ d.
-                edge-rule (A .home-o k h d) (word k (4 * k) d (omega arith) (omega arith)) (word k (4 * k + 1) d (omega arith) (omega arith))
-                (word k (4 * k + 2) d (omega arith) (omega arith))
-                (word k (4 * k + 3) d (omega arith) (omega arith))
-                (G .edge k h));
-            joint = G .joint;
-            distinct = G .distinct;
-            head = G .head;
-          }
+    touched-loose : Loose Z X T → OpenAt Z T i → EdgeAt Z touched e → Loose Z X touched
+    touched-loose G o r =
+        record {
+          enough = G .enough;
+          slots-le = G .slots-le;
+          islands-le = G .islands-le;
+          edges-le = G .edges-le;
+          joints-le = G .joints-le;
+          journal-le = G .journal-le;
+          members-wf = G .members-wf;
+          freed-wf = G .freed-wf;
+          contacts-wf = A .wf;
+          joints-wf = G .joints-wf;
+          spare-wf = G .spare-wf;
+          scan-wf = G .scan-wf;
+          slot = G .slot;
+          island = λ j h.
+              either j i (λ s. subst (LooseAt Z touched) (sym s) (inl o)) (λ d. loose-rule refl (A .count-o j h d) refl refl refl refl refl (G .island j h));
+          seen = G .seen;
+          edge = λ k h.
+              either k e (λ s. subst (EdgeAt Z touched) (sym s) r)
+              (λ d.
+              edge-rule (A .home-o k h d) (word k (4 * k) d (omega arith) (omega arith)) (word k (4 * k + 1) d (omega arith) (omega arith))
+              (word k (4 * k + 2) d (omega arith) (omega arith))
+              (word k (4 * k + 3) d (omega arith) (omega arith))
+              (G .edge k h));
+          joint = G .joint;
+          distinct = G .distinct;
+          head = G .head;
+        }
 
-      touched-world : (f : List ContactLink → List ContactLink) → map (contactAt U) (listOf S′ i) ≡ f (map (contactAt (T .touches)) (listOf S i))
-          → decode Z X touched ≡ island-set (decode Z X T) i (contacts-set (islandAt (decode Z X T) i) (f (islandAt (decode Z X T) i .contact-links)))
-      unfolding island-set
-      touched-world f q =
-          world-is refl
-          (tabulate-set (X .islands) i (islandIn Z touched) (islandIn Z T) _
-          (island-is refl q refl refl refl refl ∙ ap (λ (a : Island). contacts-set a (f (a .contact-links))) (sym (island-at Z X T i il)))
-          (λ j h d. island-is refl (still (A .wf .rules) j h (A .home-e j h d) ∙ ap (map (contactAt (T .touches))) (A .list-o j h d)) refl refl refl refl))
-          refl refl refl refl refl refl refl refl refl
+    touched-world : i < X .islands → (f : List ContactLink → List ContactLink) → map (contactAt U) (listOf S′ i) ≡ f (map (contactAt (T .touches)) (listOf S i))
+        → decode Z X touched ≡ island-set (decode Z X T) i (contacts-set (islandAt (decode Z X T) i) (f (islandAt (decode Z X T) i .contact-links)))
+    unfolding island-set
+    touched-world il f q =
+        world-is refl
+        (tabulate-set (X .islands) i (islandIn Z touched) (islandIn Z T) _
+        (island-is refl q refl refl refl refl ∙ ap (λ (a : Island). contacts-set a (f (a .contact-links))) (sym (island-at Z X T i il)))
+        (λ j h d. island-is refl (still (A .wf .rules) j h (A .home-e j h d) ∙ ap (map (contactAt (T .touches))) (A .list-o j h d)) refl refl refl refl))
+        refl refl refl refl refl refl refl refl refl
 
-      touched-kept : e < X .edges → Kept Z X T touched
-      touched-kept el = kept-then (larger-refl X) (kept-contacts (A .kept)) (kept-touches (λ j h. A .touch-o j (inr (omega arith))))
+    touched-kept : e < X .edges → Kept Z X T touched
+    touched-kept el = kept-then (larger-refl X) (kept-contacts (A .kept)) (kept-touches (λ j h. A .touch-o j (inr (omega arith))))
 
 -- ---- e, which was not linked, is put last
 abbrev pub touchWords : (j s1 g1 s2 g2 : ℕ) → List (ℕ × ℕ)
@@ -144,7 +145,7 @@ stored e x a b c d l =
     (hit x ((j, a) ∷ (j + 1, b) ∷ []) (j + 2) c ((j + 3, d) ∷ []) (omega arith) (omega arith))
     (ap (λ (k : ℕ). getD (writes x (touchWords j a b c d)) k 0) q ∙ hit x ((j, a) ∷ (j + 1, b) ∷ (j + 2, c) ∷ []) (j + 3) d [] (omega arith) (omega arith))
 
-module _ (Z : Sizes) (X : Extents) (T : Tables) (G : Good Z X T) (K : Sized Z T) (i e a b c d : ℕ) (il : i < X .islands) (el : e < X .edges) (en : contacts-in Z T .home e ≡ none) where
+module _ (Z : Sizes) (X : Extents) (T : Tables) (G : Loose Z X T) (K : Sized Z T) (i e a b c d : ℕ) (il : i < X .islands) (el : e < X .edges) (en : contacts-in Z T .home e ≡ none) where
   abbrev C : List ℕ
   C = pushed (T .contacts) 0 (4 * Z .edges) i e
 
@@ -166,15 +167,15 @@ module _ (Z : Sizes) (X : Extents) (T : Tables) (G : Good Z X T) (K : Sized Z T)
         touch-o = λ j o. far e j (T .touches) a b c d o;
       }
 
-  push-good : members-in Z T .count i ≢ 0 → Good Z X (touched Z X T i e C U)
-  push-good n =
-      touched-good Z X T i e C U push-touched G il n
+  pub push-loose : OpenAt Z T i → Loose Z X (touched Z X T i e C U)
+  push-loose o =
+      touched-loose Z X T i e C U push-touched G o
       (inr (λ q. (let h = P .view-is .home-e in let m = G .contacts-wf .rules .m-small in omega arith)))
 
   push-world : decode Z X (touched Z X T i e C U) ≡ contact-pushed i (contactOf e a b c d) (decode Z X T)
   unfolding contact-pushed
   push-world =
-      touched-world Z X T i e C U push-touched G il (λ ls. ls ++ (contactOf e a b c d ∷ []))
+      touched-world Z X T i e C U push-touched il (λ ls. ls ++ (contactOf e a b c d ∷ []))
       (ap (map (contactAt U)) (P .list-i) ∙ map-append (contactAt U) (listOf (contacts-in Z T) i) (e ∷ [])
       ∙ rw (
         still Z X T i e C U push-touched (G .contacts-wf .rules) i il (λ q. (let m = G .contacts-wf .rules .m-small in omega arith)),
@@ -182,7 +183,7 @@ module _ (Z : Sizes) (X : Extents) (T : Tables) (G : Good Z X T) (K : Sized Z T)
       ))
 
   push-kept : Kept Z X T (touched Z X T i e C U)
-  push-kept = touched-kept Z X T i e C U push-touched G il el
+  push-kept = touched-kept Z X T i e C U push-touched el
 
 -- what the first store asks
 pub contact-push-ready : {Z : Sizes} {t : List ℕ} (i e : ℕ) → Sound Z t → i < extents (tables Z t) .islands → e < extents (tables Z t) .edges → contacts-in Z (tables Z t) .home e ≡ none
@@ -196,12 +197,12 @@ unfolding contact-push
 contact-linked {Z} {t} {t1} {t2} i e a b c d S il n el en A B =
     let T = tables Z t in
     let X = extents T in
-    let G = S .good in
+    let G = good-loose (S .good) in
     let K = sized Z t (S .long) in
     let h1 : length t1 ≡ total Z = A .same-length ∙ S .long in
     let e1 = put-contacts Z t t1 _ (S .long) A in
     let e2 = put-touches Z t1 t2 _ h1 B ∙ ap (λ (W : Tables). touches-put W (writes (W .touches) (touchWords (4 * e) a b c d))) e1 in
-    steps-at t2 (contact-pushed i (contactOf e a b c d)) X _ e2 refl (B .same-length ∙ h1) (push-good Z X T G K i e a b c d il el en n) (push-world Z X T G K i e a b c d il el en)
+    steps-at t2 (contact-pushed i (contactOf e a b c d)) X _ e2 refl (B .same-length ∙ h1) (loose-good (push-loose Z X T G K i e a b c d il el en (lives-open Z T i n (G .island i il))) (peopled (S .good))) (push-world Z X T G K i e a b c d il el en)
     (push-kept Z X T G K i e a b c d il el en)
     (larger-refl X)
 
@@ -225,7 +226,7 @@ module _ {A : Type 0} (g : ℕ → A) where
       map-take k (set xs p (getD xs k 0)) ∙ ap (take k) (map-set xs p (getD xs k 0) ∙ ap (set (map g xs) p) (sym (value-at g d xs k (omega arith))))
       ∙ ap (λ (n : ℕ). take (n - 1) (set (map g xs) p (getD (map g xs) (n - 1) d))) (sym (length-map xs g))
 
-module _ (Z : Sizes) (X : Extents) (T : Tables) (G : Good Z X T) (K : Sized Z T) (e : ℕ) (el : e < X .edges) (eh : contacts-in Z T .home e ≢ none) where
+module _ (Z : Sizes) (X : Extents) (T : Tables) (G : Loose Z X T) (K : Sized Z T) (e : ℕ) (el : e < X .edges) (eh : contacts-in Z T .home e ≢ none) where
   abbrev i : ℕ
   i = contacts-in Z T .home e
 
@@ -259,14 +260,15 @@ module _ (Z : Sizes) (X : Extents) (T : Tables) (G : Good Z X T) (K : Sized Z T)
   some : 0 < length (listOf (contacts-in Z T) i)
   some = let p = listed-lt (G .contacts-wf .rules) e el il in omega arith
 
-  -- an island with a link has a body
-  lives : members-in Z T .count i ≢ 0
-  lives n =
-      ⊎-elim (λ x. (let l = x .some in omega arith)) (λ x. (let l = length-list (G .contacts-wf .rules) i il in let p = some in let c = x .no-contact in omega arith)) (G .island i il)
+  -- an island with a link is not free
+  linked-open : OpenAt Z T i
+  linked-open =
+      ⊎-elim (λ (x : OpenAt Z T i). x)
+      (λ x. absurd (let l = length-list (G .contacts-wf .rules) i il in let p = some in let c = x .no-contact in omega arith)) (G .island i il)
 
-  take-good : Good Z X (touched Z X T i e C′ U′)
-  take-good =
-      touched-good Z X T i e C′ U′ take-touched G il lives
+  take-loose : Loose Z X (touched Z X T i e C′ U′)
+  take-loose =
+      touched-loose Z X T i e C′ U′ take-touched G linked-open
       (inl
       (record {
         not-linked = Q .home-e;
@@ -279,37 +281,55 @@ module _ (Z : Sizes) (X : Extents) (T : Tables) (G : Good Z X T) (K : Sized Z T)
   take-world : decode Z X (touched Z X T i e C′ U′) ≡ contact-removed i (contacts-in Z T .place e) (decode Z X T)
   unfolding contact-removed
   take-world =
-      touched-world Z X T i e C′ U′ take-touched G il (λ ls. swapRemove noContact ls (contacts-in Z T .place e))
+      touched-world Z X T i e C′ U′ take-touched il (λ ls. swapRemove noContact ls (contacts-in Z T .place e))
       (still Z X T i e C′ U′ take-touched (Q .wf .rules) i il (λ q. (let h = Q .home-e in omega arith))
       ∙ ap (map (contactAt (T .touches))) (Q .list-e)
       ∙ map-swap (contactAt (T .touches)) noContact (listOf (contacts-in Z T) i) (contacts-in Z T .place e) some)
 
   take-kept : Kept Z X T (touched Z X T i e C′ U′)
-  take-kept = touched-kept Z X T i e C′ U′ take-touched G il el
+  take-kept = touched-kept Z X T i e C′ U′ take-touched el
 
 -- what the first store asks
-pub contact-take-ready : {Z : Sizes} {t : List ℕ} (e : ℕ) → Sound Z t → e < extents (tables Z t) .edges → contacts-in Z (tables Z t) .home e ≢ none
+pub contact-take-ready : {Z : Sizes} {t : List ℕ} (e : ℕ) → Loosely Z t → e < extents (tables Z t) .edges → contacts-in Z (tables Z t) .home e ≢ none
     → RemoveReady (tables Z t .contacts) 0 (4 * Z .edges) e
-contact-take-ready {Z} e S el eh = remove-ready (Z .edges) (S .good .contacts-wf) e el eh
+contact-take-ready {Z} e S el eh = remove-ready (Z .edges) (S .loose .contacts-wf) e el eh
 
 -- the tables after it
-pub contact-out : {Z : Sizes} {t t1 t2 : List ℕ} (e : ℕ) → Sound Z t → Put (contactsAt Z) (contactsLong Z) t t1 (removed (tables Z t .contacts) 0 (4 * Z .edges) e)
+pub contact-out : (Z : Sizes) {t t1 t2 : List ℕ} (e : ℕ) → length t ≡ total Z → Put (contactsAt Z) (contactsLong Z) t t1 (removed (tables Z t .contacts) 0 (4 * Z .edges) e)
     → Put (touchesAt Z) (touchesLong Z) t1 t2 (writes (tables Z t1 .touches) (elemWords (4 * e)))
     → tables Z t2 ≡ touches-put (contacts-put (tables Z t) (removed (tables Z t .contacts) 0 (4 * Z .edges) e)) (writes (tables Z t .touches) (elemWords (4 * e)))
-contact-out {Z} {t} {t1} {t2} e S A B =
-    put-touches Z t1 t2 _ (A .same-length ∙ S .long) B ∙ ap (λ (W : Tables). touches-put W (writes (W .touches) (elemWords (4 * e)))) (put-contacts Z t t1 _ (S .long) A)
+contact-out Z {t} {t1} {t2} e l A B =
+    put-touches Z t1 t2 _ (A .same-length ∙ l) B ∙ ap (λ (W : Tables). touches-put W (writes (W .touches) (elemWords (4 * e)))) (put-contacts Z t t1 _ l A)
+
+-- on loose tables, and on sound ones
+pub contact-gone : {Z : Sizes} {t t1 t2 : List ℕ} (e : ℕ) → Loosely Z t → e < extents (tables Z t) .edges → contacts-in Z (tables Z t) .home e ≢ none
+    → Put (contactsAt Z) (contactsLong Z) t t1 (removed (tables Z t .contacts) 0 (4 * Z .edges) e)
+    → Put (touchesAt Z) (touchesLong Z) t1 t2 (writes (tables Z t1 .touches) (elemWords (4 * e))) → ContactGone Z e t t2
+unfolding contact-remove
+contact-gone {Z} {t} {t1} {t2} e S el eh A B =
+    let T = tables Z t in
+    let X = extents T in
+    let G = S .loose in
+    let K = sized Z t (S .long) in
+    let r = contact-out Z e (S .long) A B in
+    let M =
+    moves-at t2 (contact-removed (contacts-in Z T .home e) (contacts-in Z T .place e)) X _ r refl (B .same-length ∙ A .same-length ∙ S .long) (take-loose Z X T G K e el eh)
+    (take-world Z X T G K e el eh)
+    (take-kept Z X T G K e el eh)
+    (larger-refl X) in
+    record {
+      moves = M;
+      steps = λ U.
+          moved-steps (contact-removed (contacts-in Z T .home e) (contacts-in Z T .place e)) M (subst (λ (W : Tables). Peopled Z (extents W) W) (sym r) (peopled (U .good)));
+      stays = subst (Stays T) (sym r) (record { head = refl; slots = refl; members = refl; rows = refl; freed = refl; journal = refl; scan = refl; fit = refl });
+      joints = subst (JointsStay T) (sym r) (record { joints = refl; keys = refl; spare = refl });
+      below =
+          subst (λ (W : Tables). Below (contacts-in Z T) (contacts-in Z W) (contacts-in Z T .home e) (contacts-in Z T .place e)) (sym r)
+          (below-taken (Z .edges) (X .edges) (X .islands) e (T .contacts) (C′ Z X T G K e el eh) (G .contacts-wf) el eh (Q Z X T G K e el eh));
+    }
 
 pub contact-taken : {Z : Sizes} {t t1 t2 : List ℕ} (e : ℕ) → Sound Z t → e < extents (tables Z t) .edges → contacts-in Z (tables Z t) .home e ≢ none
     → Put (contactsAt Z) (contactsLong Z) t t1 (removed (tables Z t .contacts) 0 (4 * Z .edges) e)
     → Put (touchesAt Z) (touchesLong Z) t1 t2 (writes (tables Z t1 .touches) (elemWords (4 * e)))
     → Steps Z (contact-remove (contacts-in Z (tables Z t) .home e) (contacts-in Z (tables Z t) .place e)) t t2
-unfolding contact-remove
-contact-taken {Z} {t} {t1} {t2} e S el eh A B =
-    let T = tables Z t in
-    let X = extents T in
-    let G = S .good in
-    let K = sized Z t (S .long) in
-    steps-at t2 (contact-removed (contacts-in Z T .home e) (contacts-in Z T .place e)) X _ (contact-out e S A B) refl (B .same-length ∙ A .same-length ∙ S .long) (take-good Z X T G K e el eh)
-    (take-world Z X T G K e el eh)
-    (take-kept Z X T G K e el eh)
-    (larger-refl X)
+contact-taken e S el eh A B = contact-gone e (sound-loose S) el eh A B .steps S

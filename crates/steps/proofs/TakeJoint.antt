@@ -17,7 +17,7 @@ use Rattle.state.specs.World.{JointLink, noJoint, Island, islandAt, island-set}
 use Rattle.state.specs.Links.{joints-set, joint-removed}
 use Rattle.tables.specs.Layout.{Tables, tables, total, jointsAt, jointsLong, keysAt, keysLong, spareAt, spareLong, joints-put, keys-put, spare-put, Extents, extents, joints-in, spare-in, elemWords}
 use Rattle.tables.specs.Decode.{jointAt, islandIn, decode}
-use Rattle.tables.specs.Sound.{JointAt, IslandAt, Distinct, Good, Sound}
+use Rattle.tables.specs.Sound.{JointAt, Distinct, Sound}
 use Rattle.tables.specs.Does.{Kept}
 use Rattle.tables.proofs.Puts.{Sized, sized, put-joints, put-keys, put-spare}
 use Rattle.tables.proofs.Tab.{tabulate-set}
@@ -25,9 +25,9 @@ use Rattle.tables.proofs.Chains.{Added, Taken, added, taken, push-ready, remove
 use Rattle.tables.proofs.Frame.{larger-refl, kept-then, kept-joints, kept-keys, kept-spare}
 use Rattle.steps.specs.Drops.{Stays, ContactsStay}
 use Rattle.steps.specs.Linking.{joint-remove}
-use Rattle.steps.specs.Places.{JointTaken}
-use Rattle.steps.proofs.Good.{island-is, world-is, island-rule}
-use Rattle.steps.proofs.At.{steps-at}
+use Rattle.steps.specs.Loose.{OpenAt, LooseAt, Loose, Loosely, Peopled, Below, JointGone}
+use Rattle.steps.proofs.Good.{island-is, world-is}
+use Rattle.steps.proofs.Loose.{loose-rule, peopled, moves-at, moved-steps, below-taken}
 use Rattle.steps.proofs.Names.{island-at}
 use Rattle.steps.proofs.LastOut.{still}
 use Rattle.steps.proofs.JointKeys.{value-at, link-at}
@@ -53,7 +53,7 @@ module _ {A : Type 0} (g : ℕ → A) where
       map-take (n - 1) (set xs k (getD xs (n - 1) 0)) ∙ ap (take (n - 1)) (map-set xs k (getD xs (n - 1) 0) ∙ ap (set (map g xs) k) (sym (value-at g xs d (n - 1) (omega arith))))
       ∙ ap (λ (m : ℕ). take (m - 1) (set (map g xs) k (getD (map g xs) (m - 1) d))) (sym e)
 
-module _ (Z : Sizes) (X : Extents) (T : Tables) (G : Good Z X T) (K : Sized Z T) (p : ℕ) (pl : p < X .joints) (hn : joints-in Z T .home p ≢ none) where
+module _ (Z : Sizes) (X : Extents) (T : Tables) (G : Loose Z X T) (K : Sized Z T) (p : ℕ) (pl : p < X .joints) (hn : joints-in Z T .home p ≢ none) where
   abbrev S : View
   S = joints-in Z T
 
@@ -99,8 +99,8 @@ module _ (Z : Sizes) (X : Extents) (T : Tables) (G : Good Z X T) (K : Sized Z T)
       let db : b ≢ p = λ r. hb (ap (joints-in Z T′ .home) r ∙ P .home-e) in
       G .distinct a b al bl (λ z. ha (P .home-o a al da ∙ z)) (λ z. hb (P .home-o b bl db ∙ z)) (other-keys (T .keys) p none none none none none none none none a b da db s)
 
-  take-good : Good Z X T′
-  take-good =
+  take-loose : Loose Z X T′
+  take-loose =
       record {
         enough = G .enough;
         slots-le = G .slots-le;
@@ -117,8 +117,8 @@ module _ (Z : Sizes) (X : Extents) (T : Tables) (G : Good Z X T) (K : Sized Z T)
         slot = G .slot;
         island = λ j h.
             either j i
-            (λ s. subst (IslandAt Z T′) (sym s) (⊎-elim inl (λ f. absurd (let z = f .no-joint in let y = hp .place-lt in omega arith)) (G .island i il)))
-            (λ d. island-rule refl refl (P .count-o j h d) refl refl refl refl (G .island j h));
+            (λ s. subst (LooseAt Z T′) (sym s) (⊎-elim (λ (o : OpenAt Z T i). inl o) (λ f. absurd (let z = f .no-joint in let y = hp .place-lt in omega arith)) (G .island i il)))
+            (λ d. loose-rule refl refl (P .count-o j h d) refl refl refl refl (G .island j h));
         seen = G .seen;
         edge = G .edge;
         joint = λ k h.
@@ -173,10 +173,10 @@ module _ (Z : Sizes) (X : Extents) (T : Tables) (G : Good Z X T) (K : Sized Z T)
       (kept-then (larger-refl X) (kept-keys (λ j h. outside (T .keys) p none none none none none none none none j (inr (omega arith)))) (kept-spare (A .kept)))
 
 -- ---- the step
-module _ {Z : Sizes} {t : List ℕ} (p : ℕ) (S : Sound Z t) (pl : p < extents (tables Z t) .joints) (hn : joints-in Z (tables Z t) .home p ≢ none) where
+module _ {Z : Sizes} {t : List ℕ} (p : ℕ) (S : Loosely Z t) (pl : p < extents (tables Z t) .joints) (hn : joints-in Z (tables Z t) .home p ≢ none) where
   -- what the stores ask
   pub take-ready : RemoveReady (tables Z t .joints) 0 (4 * Z .joints) p
-  take-ready = remove-ready (Z .joints) (S .good .joints-wf) p pl hn
+  take-ready = remove-ready (Z .joints) (S .loose .joints-wf) p pl hn
 
   pub spare-ready : {t1 t2 t3 y1 y2 y3 : List ℕ} → Put (jointsAt Z) (jointsLong Z) t t1 y1 → Put (keysAt Z) (keysLong Z) t1 t2 y2 → Put (keysAt Z) (keysLong Z) t2 t3 y3
       → PushReady (tables Z t3 .spare) 0 (4 * Z .joints) 0 p
@@ -186,32 +186,51 @@ module _ {Z : Sizes} {t : List ℕ} (p : ℕ) (S : Sound Z t) (pl : p < extents 
       let h2 : length t2 ≡ total Z = B .same-length ∙ h1 in
       let e : tables Z t3 .spare ≡ T .spare =
       ap (λ (W : Tables). W .spare) (put-keys Z t2 t3 _ h2 C) ∙ ap (λ (W : Tables). W .spare) (put-keys Z t1 t2 _ h1 B) ∙ ap (λ (W : Tables). W .spare) (put-joints Z t t1 _ (S .long) A) in
-      rw e (free-ready Z (extents T) T (S .good) (sized Z t (S .long)) p pl hn)
+      rw e (free-ready Z (extents T) T (S .loose) (sized Z t (S .long)) p pl hn)
 
-  pub joint-taken : {t1 t2 t3 t4 : List ℕ} → Put (jointsAt Z) (jointsLong Z) t t1 (removed (tables Z t .joints) 0 (4 * Z .joints) p)
-      → Put (keysAt Z) (keysLong Z) t1 t2 (writes (tables Z t1 .keys) (elemWords (8 * p)))
-      → Put (keysAt Z) (keysLong Z) t2 t3 (writes (tables Z t2 .keys) (elemWords (8 * p + 4)))
-      → Put (spareAt Z) (spareLong Z) t3 t4 (pushed (tables Z t3 .spare) 0 (4 * Z .joints) 0 p)
-      → JointTaken Z (joints-in Z (tables Z t) .home p) (joints-in Z (tables Z t) .place p) t t4
-  unfolding joint-remove
-  joint-taken {t1} {t2} {t3} {t4} A B C D =
-      let T = tables Z t in
-      let X = extents T in
-      let G = S .good in
-      let K = sized Z t (S .long) in
-      let h1 : length t1 ≡ total Z = A .same-length ∙ S .long in
-      let h2 : length t2 ≡ total Z = B .same-length ∙ h1 in
-      let h3 : length t3 ≡ total Z = C .same-length ∙ h2 in
-      let e1 = put-joints Z t t1 _ (S .long) A in
-      let e2 = put-keys Z t1 t2 _ h1 B ∙ ap (λ (W : Tables). keys-put W (writes (W .keys) (elemWords (8 * p)))) e1 in
-      let e3 = put-keys Z t2 t3 _ h2 C ∙ ap (λ (W : Tables). keys-put W (writes (W .keys) (elemWords (8 * p + 4)))) e2 in
-      let r : tables Z t4 ≡ T′ Z X T G K p pl hn = put-spare Z t3 t4 _ h3 D ∙ ap (λ (W : Tables). spare-put W (pushed (W .spare) 0 (4 * Z .joints) 0 p)) e3 in
-      let i = joints-in Z T .home p in
-      record {
-        steps =
-            steps-at t4 (joint-removed i (joints-in Z T .place p)) X _ r refl (D .same-length ∙ h3) (take-good Z X T G K p pl hn) (take-world Z X T G K p pl hn) (take-kept Z X T G K p pl hn)
-            (larger-refl X);
-        fewer = subst (λ (W : Tables). joints-in Z W .count i + 1 ≡ joints-in Z T .count i) (sym r) (P Z X T G K p pl hn .count-i);
-        stays = subst (Stays T) (sym r) (record { head = refl; slots = refl; members = refl; rows = refl; freed = refl; journal = refl; scan = refl; fit = refl });
-        contacts = subst (ContactsStay T) (sym r) (record { contacts = refl; touches = refl });
-      }
+  module _ {t1 t2 t3 t4 : List ℕ} (A : Put (jointsAt Z) (jointsLong Z) t t1 (removed (tables Z t .joints) 0 (4 * Z .joints) p))
+      (B : Put (keysAt Z) (keysLong Z) t1 t2 (writes (tables Z t1 .keys) (elemWords (8 * p))))
+      (C : Put (keysAt Z) (keysLong Z) t2 t3 (writes (tables Z t2 .keys) (elemWords (8 * p + 4))))
+      (D : Put (spareAt Z) (spareLong Z) t3 t4 (pushed (tables Z t3 .spare) 0 (4 * Z .joints) 0 p)) where
+    h3 : length t3 ≡ total Z
+    h3 = C .same-length ∙ B .same-length ∙ A .same-length ∙ S .long
+
+    out : tables Z t4 ≡ T′ Z (extents (tables Z t)) (tables Z t) (S .loose) (sized Z t (S .long)) p pl hn
+    out =
+        let h1 : length t1 ≡ total Z = A .same-length ∙ S .long in
+        let h2 : length t2 ≡ total Z = B .same-length ∙ h1 in
+        let e1 = put-joints Z t t1 _ (S .long) A in
+        let e2 = put-keys Z t1 t2 _ h1 B ∙ ap (λ (W : Tables). keys-put W (writes (W .keys) (elemWords (8 * p)))) e1 in
+        let e3 = put-keys Z t2 t3 _ h2 C ∙ ap (λ (W : Tables). keys-put W (writes (W .keys) (elemWords (8 * p + 4)))) e2 in
+        put-spare Z t3 t4 _ h3 D ∙ ap (λ (W : Tables). spare-put W (pushed (W .spare) 0 (4 * Z .joints) 0 p)) e3
+
+    pub joint-gone : JointGone Z p t t4
+    unfolding joint-remove
+    joint-gone =
+        let T = tables Z t in
+        let X = extents T in
+        let G = S .loose in
+        let K = sized Z t (S .long) in
+        let i = joints-in Z T .home p in
+        let r = out in
+        let M =
+        moves-at t4 (joint-removed i (joints-in Z T .place p)) X _ r refl (D .same-length ∙ h3) (take-loose Z X T G K p pl hn) (take-world Z X T G K p pl hn)
+        (take-kept Z X T G K p pl hn)
+        (larger-refl X) in
+        let stays : Stays T (tables Z t4) = subst (Stays T) (sym r) (record { head = refl; slots = refl; members = refl; rows = refl; freed = refl; journal = refl; scan = refl; fit = refl }) in
+        let contacts : ContactsStay T (tables Z t4) = subst (ContactsStay T) (sym r) (record { contacts = refl; touches = refl }) in
+        record {
+          moves = M;
+          taken = λ U.
+              record {
+                steps = moved-steps (joint-removed i (joints-in Z T .place p)) M (subst (λ (W : Tables). Peopled Z (extents W) W) (sym r) (peopled (U .good)));
+                fewer = subst (λ (W : Tables). joints-in Z W .count i + 1 ≡ joints-in Z T .count i) (sym r) (P Z X T G K p pl hn .count-i);
+                stays = stays;
+                contacts = contacts;
+              };
+          stays = stays;
+          contacts = contacts;
+          below =
+              subst (λ (W : Tables). Below (joints-in Z T) (joints-in Z W) i (joints-in Z T .place p)) (sym r)
+              (below-taken (Z .joints) (X .joints) (X .islands) p (T .joints) (J Z X T G K p pl hn) (G .joints-wf) pl hn (P Z X T G K p pl hn));
+        }

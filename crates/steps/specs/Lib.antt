@@ -9,3 +9,4 @@ pub mod Lives
 pub mod Merging
 pub mod Places
 pub mod Renumbering
+pub mod Loose

@@ -1,4 +1,4 @@
-use Rattle.steps.proofs.OneContact.{contact-take-ready, contact-taken}
+use Rattle.steps.proofs.OneContact.{contact-take-ready, contact-gone}
 use borrow.Author.Needs.{needs}
 use Rattle.contacts.proofs.take_contact.Statement.{statement}
 use Rattle.contacts.proofs.take_contact.Tie as tie
@@ -32,7 +32,7 @@ returns c =
     let c9 = c6 .before .before .before in
     let t-args = c9 .args in
     let t-pre = c9 .pre in
-    contact-taken (t-args .e) (t-pre .0) (t-pre .1) (t-pre .2) (t-remove .ensures) (t-set4 .ensures)
+    contact-gone (t-args .e) (t-pre .0) (t-pre .1) (t-pre .2) (t-remove .ensures) (t-set4 .ensures)
 
 pub take-contact-spec : {M : Type 1} → statement M
 take-contact-spec = tie.close (tie.spec remove-requires mul-set4 set4-requires same-length returns)

@@ -10,6 +10,7 @@ use Rattle.contacts.proofs.unlink_contact_on.Reads as reads
 use Rattle.contacts.proofs.unlink_contact_on.Lts as lts
 use Rattle.contacts.proofs.push_entry.Reads as push-entry-reads
 use Rattle.contacts.proofs.same_handle.Reads as same-handle-reads
+use Rattle.steps.proofs.Loose.{sound-loose}
 use Rattle.contacts.proofs.take_contact.Reads as take-contact-reads
 use Rattle.store.proofs.get.Reads as get-reads
 use Rattle.store.proofs.home.Reads as home-reads
@@ -94,7 +95,7 @@ take-contact-requires c κs =
     let t-get = c15 .get in
     let c18 = c15 .before .before .before in
     let t-pre = c18 .pre in
-    (t-pre, (omega (arith, t-get .ensures .0, t-if1 .left)), (λ x. t-if2 .left (t-home .ensures .0 ∙ x)))
+    (sound-loose t-pre, (omega (arith, t-get .ensures .0, t-if1 .left)), (λ x. t-if2 .left (t-home .ensures .0 ∙ x)))
 
 same-length-3 : tie.Need-same-length-3
 same-length-3 c = search needs
@@ -126,7 +127,7 @@ returns-3 c =
     let c21 = c18 .before .before .before in
     let t-args = c21 .args in
     let t-pre = c21 .pre in
-    unlinked-same (t-args .e) t-pre (omega (arith, t-get .ensures .0, t-if1 .left)) (λ x. t-if2 .left (t-home .ensures .0 ∙ x)) (t-get2 .result) (t-get3 .result) (t-get4 .result) (t-get5 .result) (link-words (tables (t-args .z) (now (t-args .t)) .touches) (t-args .e) (t-get2 .result) (t-get3 .result) (t-get4 .result) (t-get5 .result) (t-get2 .ensures .0) (t-get3 .ensures .0) (t-get4 .ensures .0) (t-get5 .ensures .0)) (sym (t-same-handle .ensures) ∙ t-if3 .taken) (t-take-contact .ensures)
+    unlinked-same (t-args .e) t-pre (omega (arith, t-get .ensures .0, t-if1 .left)) (λ x. t-if2 .left (t-home .ensures .0 ∙ x)) (t-get2 .result) (t-get3 .result) (t-get4 .result) (t-get5 .result) (link-words (tables (t-args .z) (now (t-args .t)) .touches) (t-args .e) (t-get2 .result) (t-get3 .result) (t-get4 .result) (t-get5 .result) (t-get2 .ensures .0) (t-get3 .ensures .0) (t-get4 .ensures .0) (t-get5 .ensures .0)) (sym (t-same-handle .ensures) ∙ t-if3 .taken) (t-take-contact .ensures .steps t-pre)
 
 get-requires-6 : tie.Need-get-requires-6
 get-requires-6 c κs = search needs
@@ -176,7 +177,7 @@ take-contact-requires-2 c κs =
     let t-get = c19 .get in
     let c22 = c19 .before .before .before in
     let t-pre = c22 .pre in
-    (t-pre, (omega (arith, t-get .ensures .0, t-if1 .left)), (λ x. t-if2 .left (t-home .ensures .0 ∙ x)))
+    (sound-loose t-pre, (omega (arith, t-get .ensures .0, t-if1 .left)), (λ x. t-if2 .left (t-home .ensures .0 ∙ x)))
 
 push-entry-requires : tie.Need-push-entry-requires
 push-entry-requires c κs =
@@ -186,7 +187,9 @@ push-entry-requires c κs =
     let t-if4 = c5 .if4 in
     let c7 = c5 .before .before in
     let t-get6 = c7 .get6 in
-    (t-take-contact2 .ensures .does .sound, omega (arith, removed-journal _ _ (t-take-contact2 .ensures), t-get6 .ensures .0, t-if4 .left))
+    let c26 = c7 .before .before .before .before .before .before .before .before .before .before .before .before .before .before .before .before .before .before .before in
+    let t-pre = c26 .pre in
+    (t-take-contact2 .ensures .steps t-pre .does .sound, omega (arith, removed-journal _ _ (t-take-contact2 .ensures .steps t-pre), t-get6 .ensures .0, t-if4 .left))
 
 same-length-5 : tie.Need-same-length-5
 same-length-5 c =
@@ -229,7 +232,7 @@ returns-5 c =
     let c29 = c26 .before .before .before in
     let t-args = c29 .args in
     let t-pre = c29 .pre in
-    unlinked-other (t-args .e) t-pre (omega (arith, t-get .ensures .0, t-if1 .left)) (λ x. t-if2 .left (t-home .ensures .0 ∙ x)) (t-get2 .result) (t-get3 .result) (t-get4 .result) (t-get5 .result) (link-words (tables (t-args .z) (now (t-args .t)) .touches) (t-args .e) (t-get2 .result) (t-get3 .result) (t-get4 .result) (t-get5 .result) (t-get2 .ensures .0) (t-get3 .ensures .0) (t-get4 .ensures .0) (t-get5 .ensures .0)) (sym (t-same-handle .ensures) ∙ t-if3 .left) (omega (arith, t-get6 .ensures .0, t-if4 .left)) (t-take-contact2 .ensures) (t-push-entry .ensures)
+    unlinked-other (t-args .e) t-pre (omega (arith, t-get .ensures .0, t-if1 .left)) (λ x. t-if2 .left (t-home .ensures .0 ∙ x)) (t-get2 .result) (t-get3 .result) (t-get4 .result) (t-get5 .result) (link-words (tables (t-args .z) (now (t-args .t)) .touches) (t-args .e) (t-get2 .result) (t-get3 .result) (t-get4 .result) (t-get5 .result) (t-get2 .ensures .0) (t-get3 .ensures .0) (t-get4 .ensures .0) (t-get5 .ensures .0)) (sym (t-same-handle .ensures) ∙ t-if3 .left) (omega (arith, t-get6 .ensures .0, t-if4 .left)) (t-take-contact2 .ensures .steps t-pre) (t-push-entry .ensures)
 
 pub unlink-contact-on-spec : {M : Type 1} → statement M
 unlink-contact-on-spec =

@@ -10,6 +10,7 @@ use Rattle.tables.specs.Layout.{tables, extents}
 use Rattle.tables.specs.Sound.{Sound}
 use Rattle.steps.specs.Steps.{handle}
 use Rattle.steps.proofs.GrowIsland.{room-left}
+use Rattle.steps.proofs.Loose.{sound-loose}
 use Rattle.steps.proofs.Found.{joins, ensure-no, ready-waits, ensured}
 use borrow.Author.Needs.{needs}
 use Rattle.isles.proofs.ensure_on.Statement.{statement}
@@ -46,7 +47,7 @@ make-ready-requires c κs =
     let t-args = c5 .args in
     let t-pre = c5 .pre in
     let J = joins (t-args .s) (t-args .g) t-pre (sym (t-may-join .ensures) ∙ not-false _ (t-if1 .left)) in
-    (t-pre, (λ e. room-left (t-args .s) t-pre e (J .name .slot-lt) (J .no-member)))
+    (sound-loose t-pre, (λ e. room-left (t-args .s) t-pre e (J .name .slot-lt) (J .no-member)))
 
 found-island-requires : tie.Need-found-island-requires
 found-island-requires c κs =
@@ -59,8 +60,8 @@ found-island-requires c κs =
     let c9 = c6 .before .before .before in
     let t-args = c9 .args in
     let t-pre = c9 .pre in
-    let W = ready-waits (t-args .s) (t-args .g) t-pre (sym (t-may-join .ensures) ∙ not-false _ (t-if1 .left)) (t-make-ready .ensures) in
-    (t-make-ready .ensures .does .sound, W .slot-lt, W .no-member, W .not-vacant, W .number, W .sleeping-flag)
+    let W = ready-waits (t-args .s) (t-args .g) t-pre (sym (t-may-join .ensures) ∙ not-false _ (t-if1 .left)) (t-make-ready .ensures .steps t-pre) in
+    (t-make-ready .ensures .steps t-pre .does .sound, W .slot-lt, W .no-member, W .not-vacant, W .number, W .sleeping-flag)
 
 same-length-2 : tie.Need-same-length-2
 same-length-2 c = search needs
@@ -78,7 +79,7 @@ returns-2 c =
     let c12 = c9 .before .before .before in
     let t-args = c12 .args in
     let t-pre = c12 .pre in
-    ensured (t-args .s) (t-args .g) t-pre (sym (t-may-join .ensures) ∙ not-false _ (t-if1 .left)) (t-make-ready .ensures) (t-found-island .ensures)
+    ensured (t-args .s) (t-args .g) t-pre (sym (t-may-join .ensures) ∙ not-false _ (t-if1 .left)) (t-make-ready .ensures .steps t-pre) (t-found-island .ensures)
 
 pub ensure-on-spec : {M : Type 1} → statement M
 ensure-on-spec =

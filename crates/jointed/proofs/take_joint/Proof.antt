@@ -1,6 +1,6 @@
 -- `jointed::take_joint` meets its contract. The four stores are those of the law of `TakeJoint`. Assumes nothing.
 use mathlib.Core.Path.{_∙_}
-use Rattle.steps.proofs.TakeJoint.{spare-ready, joint-taken}
+use Rattle.steps.proofs.TakeJoint.{spare-ready, joint-gone}
 use borrow.Author.Needs.{needs}
 use Rattle.jointed.proofs.take_joint.Statement.{statement}
 use Rattle.jointed.proofs.take_joint.Tie as tie
@@ -52,7 +52,7 @@ returns c =
     let c17 = c14 .before .before .before in
     let t-args = c17 .args in
     let t-pre = c17 .pre in
-    joint-taken (t-args .p) (t-pre .0) (t-pre .1) (t-pre .2) (t-remove .ensures) (t-set4 .ensures) (t-set42 .ensures) (t-push .ensures)
+    joint-gone (t-args .p) (t-pre .0) (t-pre .1) (t-pre .2) (t-remove .ensures) (t-set4 .ensures) (t-set42 .ensures) (t-push .ensures)
 
 pub take-joint-spec : {M : Type 1} → statement M
 take-joint-spec =

@@ -4,6 +4,7 @@ use mathlib.Core.Path.{sym, _∙_, ap}
 use mathlib.Core.List.{List}
 use Prim.Native.Nat.{ℕ}
 use lib.ListN.{getD}
+use Rattle.steps.proofs.Loose.{sound-loose}
 use Rattle.steps.proofs.JointKeys.{found-none, found-at, found-fits}
 use Rattle.steps.proofs.UnlinkJoint.{unlinks-none, unlinks-full, unlinks-self, unlinks-some}
 use borrow.Author.Needs.{needs}
@@ -45,7 +46,7 @@ take-joint-requires c κs =
     let c8 = c5 .before .before .before in
     let t-pre = c8 .pre in
     let A = (found-at (t-pre .0) (t-find-place .ensures) (t-if1 .left)) in
-    (t-pre .0, A .place-lt, A .keyed .linked)
+    (sound-loose (t-pre .0), A .place-lt, A .keyed .linked)
 
 same-length-2 : tie.Need-same-length-2
 same-length-2 c = search needs
@@ -65,7 +66,7 @@ returns-2 c =
     let c11 = c8 .before .before .before in
     let t-args = c11 .args in
     let t-pre = c11 .pre in
-    unlinks-self (t-args .kind) (t-args .a) (t-args .b) (t-args .c) (t-pre .0) (t-pre .1) (t-find-place .result) (found-at (t-pre .0) (t-find-place .ensures) (t-if1 .left)) (sym (t-same-ends .ensures) ∙ t-if2 .taken) (t-take-joint .ensures)
+    unlinks-self (t-args .kind) (t-args .a) (t-args .b) (t-args .c) (t-pre .0) (t-pre .1) (t-find-place .result) (found-at (t-pre .0) (t-find-place .ensures) (t-if1 .left)) (sym (t-same-ends .ensures) ∙ t-if2 .taken) (t-take-joint .ensures .taken (t-pre .0))
 
 get-requires : tie.Need-get-requires
 get-requires c κs = search needs
@@ -164,7 +165,7 @@ take-joint-requires-2 c κs =
     let c20 = c17 .before .before .before in
     let t-pre = c20 .pre in
     let A = (found-at (t-pre .0) (t-find-place .ensures) (t-if1 .left)) in
-    (t-pre .0, A .place-lt, A .keyed .linked)
+    (sound-loose (t-pre .0), A .place-lt, A .keyed .linked)
 
 push-entry-requires : tie.Need-push-entry-requires
 push-entry-requires c κs =
@@ -176,7 +177,9 @@ push-entry-requires c κs =
     let t-struct-known = c14 .struct-known in
     let c15 = c14 .before in
     let t-get = c15 .get in
-    (t-take-joint2 .ensures .steps .does .sound, t-get .ensures .0 ∙ sym (ap (λ (x : List ℕ). getD x 4 0) (t-take-joint2 .ensures .stays .head)), omega (arith, t-if3 .left), omega (arith, t-if3 .left, t-struct-known))
+    let c24 = c15 .before .before .before .before .before .before .before .before .before in
+    let t-pre = c24 .pre in
+    (t-take-joint2 .ensures .taken (t-pre .0) .steps .does .sound, t-get .ensures .0 ∙ sym (ap (λ (x : List ℕ). getD x 4 0) (t-take-joint2 .ensures .stays .head)), omega (arith, t-if3 .left), omega (arith, t-if3 .left, t-struct-known))
 
 same-length-4 : tie.Need-same-length-4
 same-length-4 c =
@@ -215,7 +218,7 @@ returns-4 c =
     let c27 = c24 .before .before .before in
     let t-args = c27 .args in
     let t-pre = c27 .pre in
-    unlinks-some (t-args .kind) (t-args .a) (t-args .b) (t-args .c) (t-pre .0) (t-pre .1) (t-find-place .result) (found-at (t-pre .0) (t-find-place .ensures) (t-if1 .left)) (t-get2 .result) (t-get3 .result) (t-get4 .result) (t-get5 .result) (t-get2 .ensures .0) (t-get3 .ensures .0) (t-get4 .ensures .0) (t-get5 .ensures .0) (sym (t-same-ends .ensures) ∙ t-if2 .left) (omega (arith, t-get .ensures .0, t-if3 .left)) (t-take-joint2 .ensures) (t-push-entry .ensures)
+    unlinks-some (t-args .kind) (t-args .a) (t-args .b) (t-args .c) (t-pre .0) (t-pre .1) (t-find-place .result) (found-at (t-pre .0) (t-find-place .ensures) (t-if1 .left)) (t-get2 .result) (t-get3 .result) (t-get4 .result) (t-get5 .result) (t-get2 .ensures .0) (t-get3 .ensures .0) (t-get4 .ensures .0) (t-get5 .ensures .0) (sym (t-same-ends .ensures) ∙ t-if2 .left) (omega (arith, t-get .ensures .0, t-if3 .left)) (t-take-joint2 .ensures .taken (t-pre .0)) (t-push-entry .ensures)
 
 pub unlink-joint-on-spec : {M : Type 1} → statement M
 unlink-joint-on-spec =

@@ -1,0 +1,2 @@
+-- Definitions that the contracts cite: one link, one body, one number.
+pub mod Shift

@@ -23,7 +23,7 @@ use Rattle.tables.proofs.Puts.{put-members}
 use Rattle.tables.proofs.Chains.{remove-ready}
 use Rattle.tables.proofs.Tab.{tabulate-two}
 use Rattle.tables.proofs.Frame.{larger-refl, kept-members}
-use Rattle.steps.specs.Loose.{OpenAt, LooseAt, Loose, Loosely, Below}
+use Rattle.steps.specs.Loose.{OpenAt, LooseAt, Loose, Loosely, Left}
 use Rattle.steps.proofs.Good.{island-is, world-is, slot-rule}
 use Rattle.steps.proofs.Loose.{loose-rule, lives-open, moves-at}
 use Rattle.steps.proofs.Names.{island-at}
@@ -150,7 +150,7 @@ body-went {Z} {t} {t1} {t2} to s R A B =
       head = ap (λ (V1 : Tables). V1 .head) r;
       rows = ap (λ (V1 : Tables). V1 .rows) r;
       freed = ap (λ (V1 : Tables). V1 .freed) r;
-      below = subst (λ (V1 : Tables). Below (members-in Z T) (members-in Z V1) b (members-in Z T .place s)) (sym r) (E .below);
+      left = subst (λ (V1 : Tables). Left (members-in Z T) (members-in Z V1) b (members-in Z T .place s)) (sym r) (E .left);
       fewer = subst (λ (V1 : Tables). members-in Z V1 .count b + 1 ≡ members-in Z T .count b) (sym r) (E .count-b);
       more = subst (λ (V1 : Tables). members-in Z V1 .count to ≡ members-in Z T .count to + 1) (sym r) (E .count-t);
       other = λ j jl d1 d2. subst (λ (V1 : Tables). members-in Z V1 .count j ≡ members-in Z T .count j) (sym r) (E .count-o j jl d1 d2);

@@ -9,7 +9,7 @@ use lib.Seq.{getD-set-other}
 use Rattle.lists.specs.Rules.{none, View, Held, listOf}
 use Rattle.lists.specs.Table.{view, removed, pushed, PushReady, RemoveReady}
 use Rattle.lists.proofs.Laws.{either, held}
-use Rattle.lists.proofs.Order.{length-list, list-of}
+use Rattle.lists.proofs.Order.{length-list}
 use Rattle.frame.specs.Part.{Put}
 use Rattle.kinds.specs.declared.Sizes.{Sizes}
 use Rattle.state.specs.Plain.{swapRemove}
@@ -25,11 +25,11 @@ use Rattle.tables.proofs.Chains.{remove-ready}
 use Rattle.tables.proofs.Tab.{tabulate-two}
 use Rattle.tables.proofs.Frame.{larger-refl, kept-contacts}
 use Rattle.steps.specs.Drops.{Stays, JointsStay}
-use Rattle.steps.specs.Loose.{OpenAt, LooseAt, Loose, Loosely, Below}
+use Rattle.steps.specs.Loose.{OpenAt, LooseAt, Loose, Loosely, Left}
 use Rattle.steps.proofs.Good.{island-is, world-is}
 use Rattle.steps.proofs.Loose.{loose-rule, moves-at}
 use Rattle.steps.proofs.Names.{island-at}
-use Rattle.steps.proofs.Touching.{value-at}
+use Rattle.steps.proofs.Touching.{link-held}
 use Rattle.steps.proofs.OneContact.{edge-rule, map-swap}
 use Rattle.shifts.specs.Shift.{contact-moved, ContactGoes, ContactMoved}
 use Rattle.shifts.proofs.Shift.{Shifted, shifted, shift-ready}
@@ -101,14 +101,8 @@ module _ (Z : Sizes) (X : Extents) (T : Tables) (G : Loose Z X T) (e to : ℕ) (
   size : length (listOf S b) ≡ S .count b
   size = length-list (G .contacts-wf .rules) b bl
 
-  links-b : islandAt w b .contact-links ≡ map g (listOf S b)
-  links-b = ap (λ (a : Island). a .contact-links) (island-at Z X T b bl)
-
   link-e : getD (islandAt w b .contact-links) (S .place e) noContact ≡ g e
-  link-e =
-      let h = H .place-lt in
-      let s = size in
-      ap (λ (ls : List ContactLink). getD ls (S .place e) noContact) links-b ∙ value-at g noContact (listOf S b) (S .place e) (omega arith) ∙ ap g (list-of (G .contacts-wf .rules) b bl e el refl)
+  link-e = link-held Z X T G e el eh
 
   abbrev v : World
   v = contact-removed b (S .place e) w
@@ -161,5 +155,5 @@ contact-went {Z} {t} {t1} {t2} to e R A B =
           (larger-refl X);
       stays = subst (Stays T) (sym r) (record { head = refl; slots = refl; members = refl; rows = refl; freed = refl; journal = refl; scan = refl; fit = refl });
       joints = subst (JointsStay T) (sym r) (record { joints = refl; keys = refl; spare = refl });
-      below = subst (λ (W : Tables). Below (contacts-in Z T) (contacts-in Z W) (contacts-in Z T .home e) (contacts-in Z T .place e)) (sym r) (E .below);
+      left = subst (λ (W : Tables). Left (contacts-in Z T) (contacts-in Z W) (contacts-in Z T .home e) (contacts-in Z T .place e)) (sym r) (E .left);
     }

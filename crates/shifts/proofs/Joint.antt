@@ -26,7 +26,7 @@ use Rattle.tables.proofs.Chains.{remove-ready}
 use Rattle.tables.proofs.Tab.{tabulate-two}
 use Rattle.tables.proofs.Frame.{larger-refl, kept-joints}
 use Rattle.steps.specs.Drops.{Stays, ContactsStay}
-use Rattle.steps.specs.Loose.{OpenAt, LooseAt, Loose, Loosely, Below}
+use Rattle.steps.specs.Loose.{OpenAt, LooseAt, Loose, Loosely, Left}
 use Rattle.steps.proofs.Good.{island-is, world-is}
 use Rattle.steps.proofs.Loose.{loose-rule, moves-at}
 use Rattle.steps.proofs.Names.{island-at}
@@ -168,5 +168,5 @@ joint-went {Z} {t} {t1} {t2} to p R A B =
           (larger-refl X);
       stays = subst (Stays T) (sym r) (record { head = refl; slots = refl; members = refl; rows = refl; freed = refl; journal = refl; scan = refl; fit = refl });
       contacts = subst (ContactsStay T) (sym r) (record { contacts = refl; touches = refl });
-      below = subst (λ (W : Tables). Below (joints-in Z T) (joints-in Z W) (joints-in Z T .home p) (joints-in Z T .place p)) (sym r) (E .below);
+      left = subst (λ (W : Tables). Left (joints-in Z T) (joints-in Z W) (joints-in Z T .home p) (joints-in Z T .place p)) (sym r) (E .left);
     }

@@ -10,8 +10,8 @@ use Rattle.lists.specs.Table.{view, Wf, removed, pushed, PushReady}
 use Rattle.lists.proofs.Laws.{either}
 use Rattle.tables.specs.Does.{ChainKept}
 use Rattle.tables.proofs.Chains.{Added, Taken, added, taken, push-ready, chain-then}
-use Rattle.steps.specs.Loose.{Below}
-use Rattle.steps.proofs.Loose.{below-taken}
+use Rattle.steps.specs.Loose.{Left}
+use Rattle.steps.proofs.Loose.{left-taken}
 
 pub record Shifted (N n m to e : ℕ) (x y : List ℕ) : Type 0 where
   pub wf : Wf y 0 (4 * N) n m
@@ -24,7 +24,7 @@ pub record Shifted (N n m to e : ℕ) (x y : List ℕ) : Type 0 where
   pub count-b : view y 0 (4 * N) .count (view x 0 (4 * N) .home e) + 1 ≡ view x 0 (4 * N) .count (view x 0 (4 * N) .home e)
   pub count-t : view y 0 (4 * N) .count to ≡ view x 0 (4 * N) .count to + 1
   pub count-o : (j : ℕ) → j < m → j ≢ view x 0 (4 * N) .home e → j ≢ to → view y 0 (4 * N) .count j ≡ view x 0 (4 * N) .count j
-  pub below : Below (view x 0 (4 * N)) (view y 0 (4 * N)) (view x 0 (4 * N) .home e) (view x 0 (4 * N) .place e)
+  pub left : Left (view x 0 (4 * N)) (view y 0 (4 * N)) (view x 0 (4 * N) .home e) (view x 0 (4 * N) .place e)
 
 module _ (N n m to e : ℕ) (x : List ℕ) (w : Wf x 0 (4 * N) n m) (el : e < n) (eh : view x 0 (4 * N) .home e ≢ none) (tl : to < m) (away : to ≢ view x 0 (4 * N) .home e) (bl : view x 0 (4 * N) .home e < m) where
   abbrev S : View
@@ -59,5 +59,10 @@ module _ (N n m to e : ℕ) (x : List ℕ) (w : Wf x 0 (4 * N) n m) (el : e < n)
         count-b = (let a = A .view-is .count-o b bl d in let c = D .count-i in omega arith);
         count-t = (let a = A .view-is .count-i in let c = D .count-o to tl away in omega arith);
         count-o = λ j jl p q. A .view-is .count-o j jl q ∙ D .count-o j jl p;
-        below = λ q l. ap (λ (xs : List ℕ). getD xs q 0) (A .list-o b bl d) ∙ below-taken N n m e x x1 w el eh D q l;
+        left =
+            (let L = left-taken N n m e x x1 w el eh D in
+            record {
+              below = λ q l. ap (λ (xs : List ℕ). getD xs q 0) (A .list-o b bl d) ∙ L .below q l;
+              few = (let a = A .view-is .count-o b bl d in let c = L .few in omega arith);
+            });
       }

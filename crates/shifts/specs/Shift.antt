@@ -17,7 +17,7 @@ use Rattle.state.specs.Split.{awake-as, joint-moved, body-moved}
 use Rattle.tables.specs.Layout.{Tables, tables, extents, members-in, contacts-in, joints-in, freed-in}
 use Rattle.tables.specs.Decode.{worldOf, flag}
 use Rattle.steps.specs.Drops.{Stays, ContactsStay, JointsStay}
-use Rattle.steps.specs.Loose.{OpenAt, Loosely, Moves, Below, BodiesStay}
+use Rattle.steps.specs.Loose.{OpenAt, Loosely, Moves, Left, BodiesStay}
 
 -- the contact link at place p of the island base goes to the island to
 unfoldable pub contact-moved : ℕ → ℕ → ℕ → World → World
@@ -41,14 +41,14 @@ module _ (Z : Sizes) (to : ℕ) (t t′ : List ℕ) where
     pub moves : Moves Z (contact-moved (contacts-in Z (tables Z t) .home e) to (contacts-in Z (tables Z t) .place e)) t t′
     pub stays : Stays (tables Z t) (tables Z t′)
     pub joints : JointsStay (tables Z t) (tables Z t′)
-    pub below : Below (contacts-in Z (tables Z t)) (contacts-in Z (tables Z t′)) (contacts-in Z (tables Z t) .home e) (contacts-in Z (tables Z t) .place e)
+    pub left : Left (contacts-in Z (tables Z t)) (contacts-in Z (tables Z t′)) (contacts-in Z (tables Z t) .home e) (contacts-in Z (tables Z t) .place e)
 
   -- the joint link at the place p of the key table
   pub record JointMoved (p : ℕ) : Type 0 where
     pub moves : Moves Z (joint-moved (joints-in Z (tables Z t) .home p) to (joints-in Z (tables Z t) .place p)) t t′
     pub stays : Stays (tables Z t) (tables Z t′)
     pub contacts : ContactsStay (tables Z t) (tables Z t′)
-    pub below : Below (joints-in Z (tables Z t)) (joints-in Z (tables Z t′)) (joints-in Z (tables Z t) .home p) (joints-in Z (tables Z t) .place p)
+    pub left : Left (joints-in Z (tables Z t)) (joints-in Z (tables Z t′)) (joints-in Z (tables Z t) .home p) (joints-in Z (tables Z t) .place p)
 
   -- the body in slot s
   pub record BodyMoved (s : ℕ) : Type 0 where
@@ -56,7 +56,7 @@ module _ (Z : Sizes) (to : ℕ) (t t′ : List ℕ) where
     pub head : tables Z t′ .head ≡ tables Z t .head
     pub rows : tables Z t′ .rows ≡ tables Z t .rows
     pub freed : tables Z t′ .freed ≡ tables Z t .freed
-    pub below : Below (members-in Z (tables Z t)) (members-in Z (tables Z t′)) (members-in Z (tables Z t) .home s) (members-in Z (tables Z t) .place s)
+    pub left : Left (members-in Z (tables Z t)) (members-in Z (tables Z t′)) (members-in Z (tables Z t) .home s) (members-in Z (tables Z t) .place s)
     pub fewer : members-in Z (tables Z t′) .count (members-in Z (tables Z t) .home s) + 1 ≡ members-in Z (tables Z t) .count (members-in Z (tables Z t) .home s)
     pub more : members-in Z (tables Z t′) .count to ≡ members-in Z (tables Z t) .count to + 1
     pub other : (j : ℕ) → j < extents (tables Z t) .islands → j ≢ members-in Z (tables Z t) .home s → j ≢ to → members-in Z (tables Z t′) .count j ≡ members-in Z (tables Z t) .count j

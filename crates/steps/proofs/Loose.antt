@@ -21,7 +21,7 @@ use Rattle.tables.specs.Larger.{Larger}
 use Rattle.tables.proofs.Chains.{Taken}
 use Rattle.tables.proofs.Frame.{larger-refl, larger-then, kept-refl, kept-then, world-at, kept-at}
 use Rattle.steps.specs.Steps.{Steps}
-use Rattle.steps.specs.Loose.{Open, OpenAt, LooseAt, Loose, Loosely, Peopled, Moves, Below}
+use Rattle.steps.specs.Loose.{Open, OpenAt, LooseAt, Loose, Loosely, Peopled, Moves, Left}
 
 module _ (Z : Sizes) (T : Tables) (i : ℕ) where
   abbrev FreedAt : Type 0
@@ -141,11 +141,14 @@ unfolding swapRemove
 swap-below xs p q l h =
     getD-take (length xs - 1) (set xs p (getD xs (length xs - 1) 0)) q 0 (omega arith) ∙ getD-set-other xs p q (getD xs (length xs - 1) 0) 0 (omega arith)
 
-pub below-taken : (N n m e : ℕ) (x y : List ℕ) → Wf x 0 (4 * N) n m → e < n → view x 0 (4 * N) .home e ≢ none → Taken N n m e x y
-    → Below (view x 0 (4 * N)) (view y 0 (4 * N)) (view x 0 (4 * N) .home e) (view x 0 (4 * N) .place e)
-below-taken N n m e x y w el eh D q l =
+pub left-taken : (N n m e : ℕ) (x y : List ℕ) → Wf x 0 (4 * N) n m → e < n → view x 0 (4 * N) .home e ≢ none → Taken N n m e x y
+    → Left (view x 0 (4 * N)) (view y 0 (4 * N)) (view x 0 (4 * N) .home e) (view x 0 (4 * N) .place e)
+left-taken N n m e x y w el eh D =
     let S = view x 0 (4 * N) in
     let H = held (w .rules) e el eh in
     let a = H .place-lt in
     let b = length-list (w .rules) (S .home e) (H .home-lt) in
-    ap (λ (xs : List ℕ). getD xs q 0) (D .list-e) ∙ swap-below (listOf S (S .home e)) (S .place e) q l (omega arith)
+    record {
+      below = λ q l. ap (λ (xs : List ℕ). getD xs q 0) (D .list-e) ∙ swap-below (listOf S (S .home e)) (S .place e) q l (omega arith);
+      few = (let c = D .count-i in omega arith);
+    }

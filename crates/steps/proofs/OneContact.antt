@@ -26,11 +26,11 @@ use Rattle.tables.proofs.Tab.{tabulate-set}
 use Rattle.tables.proofs.Frame.{larger-refl, kept-then, kept-contacts, kept-touches}
 use Rattle.steps.specs.Steps.{Steps}
 use Rattle.steps.specs.Drops.{Stays, JointsStay}
-use Rattle.steps.specs.Loose.{OpenAt, LooseAt, Loose, Loosely, Peopled, Moves, Below, ContactGone}
+use Rattle.steps.specs.Loose.{OpenAt, LooseAt, Loose, Loosely, Peopled, Moves, Left, ContactGone}
 use Rattle.steps.specs.Linking.{contactOf, contact-push, contact-remove}
 use Rattle.steps.proofs.Good.{island-is, world-is, island-rule}
 use Rattle.steps.proofs.At.{steps-at}
-use Rattle.steps.proofs.Loose.{loose-rule, lives-open, good-loose, loose-good, peopled, sound-loose, moves-at, moved-steps, below-taken}
+use Rattle.steps.proofs.Loose.{loose-rule, lives-open, good-loose, loose-good, peopled, sound-loose, moves-at, moved-steps, left-taken}
 use Rattle.steps.proofs.Names.{listed-lt, island-at}
 use Rattle.steps.proofs.LastOut.{map-same, blanked}
 use Rattle.steps.proofs.Touching.{value-at}
@@ -323,9 +323,9 @@ contact-gone {Z} {t} {t1} {t2} e S el eh A B =
           moved-steps (contact-removed (contacts-in Z T .home e) (contacts-in Z T .place e)) M (subst (λ (W : Tables). Peopled Z (extents W) W) (sym r) (peopled (U .good)));
       stays = subst (Stays T) (sym r) (record { head = refl; slots = refl; members = refl; rows = refl; freed = refl; journal = refl; scan = refl; fit = refl });
       joints = subst (JointsStay T) (sym r) (record { joints = refl; keys = refl; spare = refl });
-      below =
-          subst (λ (W : Tables). Below (contacts-in Z T) (contacts-in Z W) (contacts-in Z T .home e) (contacts-in Z T .place e)) (sym r)
-          (below-taken (Z .edges) (X .edges) (X .islands) e (T .contacts) (C′ Z X T G K e el eh) (G .contacts-wf) el eh (Q Z X T G K e el eh));
+      left =
+          subst (λ (W : Tables). Left (contacts-in Z T) (contacts-in Z W) (contacts-in Z T .home e) (contacts-in Z T .place e)) (sym r)
+          (left-taken (Z .edges) (X .edges) (X .islands) e (T .contacts) (C′ Z X T G K e el eh) (G .contacts-wf) el eh (Q Z X T G K e el eh));
     }
 
 pub contact-taken : {Z : Sizes} {t t1 t2 : List ℕ} (e : ℕ) → Sound Z t → e < extents (tables Z t) .edges → contacts-in Z (tables Z t) .home e ≢ none

@@ -37,6 +37,7 @@ use Rattle.steps.proofs.Good.{island-is, world-is, island-rule, head-ru
 use Rattle.steps.proofs.Then.{refused}
 use Rattle.steps.proofs.Names.{island-at}
 use Rattle.steps.proofs.Touching.{contact-home, home-held, place-held}
+use Rattle.steps.proofs.Loose.{good-loose}
 
 -- ---- what the call answers
 module _ (g l : ℕ) (w : World) where
@@ -361,7 +362,7 @@ module _ (Z : Sizes) (X : Extents) (T : Tables) (G : Good Z X T) (K : Sized Z T)
       (ho 7 (omega arith))
       (ap flag (ho 8 (omega arith)))
       refl
-      ∙ ap (λ (v : World). tracked-set v l) (sym (renumbered-in g l w i p (home-held Z X T G l (omega arith) lh) (omega arith) (place-held Z X T G l (omega arith) lh)))
+      ∙ ap (λ (v : World). tracked-set v l) (sym (renumbered-in g l w i p (home-held Z X T (good-loose G) l (omega arith) lh) (omega arith) (place-held Z X T (good-loose G) l (omega arith) lh)))
 
   hand-kept : Kept Z F T W
   hand-kept =

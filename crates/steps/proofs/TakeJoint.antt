@@ -25,9 +25,9 @@ use Rattle.tables.proofs.Chains.{Added, Taken, added, taken, push-ready, remove
 use Rattle.tables.proofs.Frame.{larger-refl, kept-then, kept-joints, kept-keys, kept-spare}
 use Rattle.steps.specs.Drops.{Stays, ContactsStay}
 use Rattle.steps.specs.Linking.{joint-remove}
-use Rattle.steps.specs.Loose.{OpenAt, LooseAt, Loose, Loosely, Peopled, Below, JointGone}
+use Rattle.steps.specs.Loose.{OpenAt, LooseAt, Loose, Loosely, Peopled, Left, JointGone}
 use Rattle.steps.proofs.Good.{island-is, world-is}
-use Rattle.steps.proofs.Loose.{loose-rule, peopled, moves-at, moved-steps, below-taken}
+use Rattle.steps.proofs.Loose.{loose-rule, peopled, moves-at, moved-steps, left-taken}
 use Rattle.steps.proofs.Names.{island-at}
 use Rattle.steps.proofs.LastOut.{still}
 use Rattle.steps.proofs.JointKeys.{value-at, link-at}
@@ -230,7 +230,7 @@ module _ {Z : Sizes} {t : List ℕ} (p : ℕ) (S : Loosely Z t) (pl : p < extent
               };
           stays = stays;
           contacts = contacts;
-          below =
-              subst (λ (W : Tables). Below (joints-in Z T) (joints-in Z W) i (joints-in Z T .place p)) (sym r)
-              (below-taken (Z .joints) (X .joints) (X .islands) p (T .joints) (J Z X T G K p pl hn) (G .joints-wf) pl hn (P Z X T G K p pl hn));
+          left =
+              subst (λ (W : Tables). Left (joints-in Z T) (joints-in Z W) i (joints-in Z T .place p)) (sym r)
+              (left-taken (Z .joints) (X .joints) (X .islands) p (T .joints) (J Z X T G K p pl hn) (G .joints-wf) pl hn (P Z X T G K p pl hn));
         }

@@ -15,8 +15,10 @@ use Rattle.state.specs.World.{ContactLink, noContact, Island, noIsland, World, 
 use Rattle.state.specs.Links.{edgesOf, contactBelow, contactHome}
 use Rattle.tables.specs.Layout.{Tables, tables, Extents, extents, contacts-in}
 use Rattle.tables.specs.Decode.{contactAt, islandIn, decode, worldOf}
-use Rattle.tables.specs.Sound.{Good, Sound}
+use Rattle.tables.specs.Sound.{Sound}
 use Rattle.tables.proofs.Tab.{length-tabulate}
+use Rattle.steps.specs.Loose.{Loose}
+use Rattle.steps.proofs.Loose.{good-loose}
 use Rattle.steps.proofs.Names.{listed-no, listed-yes, listed-place, listed-lt, island-at}
 
 below-no : (is : List Island) (e k : ℕ) → ((i : ℕ) → i < k → has (edgesOf (getD is i noIsland)) e ≡ false) → contactBelow is e k ≡ top
@@ -42,7 +44,7 @@ value-at f d [] p h = absurd (omega arith)
 value-at f d (x ∷ xs) zero h = refl
 value-at f d (x ∷ xs) (suc p) h = value-at f d xs p (omega arith)
 
-module _ (Z : Sizes) (X : Extents) (T : Tables) (G : Good Z X T) where
+module _ (Z : Sizes) (X : Extents) (T : Tables) (G : Loose Z X T) where
   abbrev w : World
   w = decode Z X T
 
@@ -84,7 +86,7 @@ module _ (Z : Sizes) (X : Extents) (T : Tables) (G : Good Z X T) where
     pub place-held : placeOf (edgesOf (islandAt w (S .home e))) e ≡ S .place e
     place-held = rw (edges-in (S .home e) il) (listed-place R e el il)
 
-    link-held : getD (islandAt w (S .home e) .contact-links) (S .place e) noContact ≡ contactAt (T .touches) e
+    pub link-held : getD (islandAt w (S .home e) .contact-links) (S .place e) noContact ≡ contactAt (T .touches) e
     link-held =
         rw (island-at Z X T (S .home e) il)
         (value-at (contactAt (T .touches)) noContact (listOf S (S .home e)) (S .place e) (listed-lt R e el il)
@@ -95,11 +97,11 @@ module _ {Z : Sizes} {t : List ℕ} (S : Sound Z t) (e : ℕ) where
   -- behind the tracked length nothing is linked
   pub contact-far : extents (tables Z t) .edges ≤ e → contactHome (worldOf Z t) e ≡ top
   unfolding worldOf
-  contact-far l = home-far Z (extents (tables Z t)) (tables Z t) (S .good) e l
+  contact-far l = home-far Z (extents (tables Z t)) (tables Z t) (good-loose (S .good)) e l
 
   pub contact-none : contacts-in Z (tables Z t) .home e ≡ none → contactHome (worldOf Z t) e ≡ top
   unfolding worldOf
-  contact-none q = home-none Z (extents (tables Z t)) (tables Z t) (S .good) e q
+  contact-none q = home-none Z (extents (tables Z t)) (tables Z t) (good-loose (S .good)) e q
 
   module _ (el : e < extents (tables Z t) .edges) where
     -- the island that has the edge is the home that its words name
@@ -107,18 +109,18 @@ module _ {Z : Sizes} {t : List ℕ} (S : Sound Z t) (e : ℕ) where
     unfolding worldOf
     contact-home =
         either (contacts-in Z (tables Z t) .home e) none (λ q. contact-none q ∙ sym q)
-        (λ d. home-held Z (extents (tables Z t)) (tables Z t) (S .good) e el d)
+        (λ d. home-held Z (extents (tables Z t)) (tables Z t) (good-loose (S .good)) e el d)
 
     module _ (d : contacts-in Z (tables Z t) .home e ≢ none) where
       pub contact-island : contacts-in Z (tables Z t) .home e < extents (tables Z t) .islands
-      contact-island = il Z (extents (tables Z t)) (tables Z t) (S .good) e el d
+      contact-island = il Z (extents (tables Z t)) (tables Z t) (good-loose (S .good)) e el d
 
       -- the place at which its list has it
       pub contact-place : placeOf (edgesOf (islandAt (worldOf Z t) (contacts-in Z (tables Z t) .home e))) e ≡ contacts-in Z (tables Z t) .place e
       unfolding worldOf
-      contact-place = place-held Z (extents (tables Z t)) (tables Z t) (S .good) e el d
+      contact-place = place-held Z (extents (tables Z t)) (tables Z t) (good-loose (S .good)) e el d
 
       -- and its link there
       pub contact-link : getD (islandAt (worldOf Z t) (contacts-in Z (tables Z t) .home e) .contact-links) (contacts-in Z (tables Z t) .place e) noContact ≡ contactAt (tables Z t .touches) e
       unfolding worldOf
-      contact-link = link-held Z (extents (tables Z t)) (tables Z t) (S .good) e el d
+      contact-link = link-held Z (extents (tables Z t)) (tables Z t) (good-loose (S .good)) e el d

@@ -73,9 +73,10 @@ pub record Moves (Z : Sizes) (f : World → World) (t t′ : List ℕ) : Type 0 
   pub frame : Kept Z (extents (tables Z t′)) (tables Z t) (tables Z t′)
   pub larger : Larger (extents (tables Z t)) (extents (tables Z t′))
 
--- the first p entries of the list i are as they were
-abbrev pub Below : (S S′ : View) (i p : ℕ) → Type 0
-Below S S′ i p = (q : ℕ) → q < p → getD (listOf S′ i) q 0 ≡ getD (listOf S i) q 0
+-- at most one entry of the list i went, and the first p are as they were
+pub record Left (S S′ : View) (i p : ℕ) : Type 0 where
+  pub below : (q : ℕ) → q < p → getD (listOf S′ i) q 0 ≡ getD (listOf S i) q 0
+  pub few : S .count i ≤ S′ .count i + 1
 
 -- the contact link e went, by swap removal
 pub record ContactGone (Z : Sizes) (e : ℕ) (t t′ : List ℕ) : Type 0 where
@@ -83,7 +84,7 @@ pub record ContactGone (Z : Sizes) (e : ℕ) (t t′ : List ℕ) : Type 0 where
   pub steps : Sound Z t → Steps Z (contact-remove (contacts-in Z (tables Z t) .home e) (contacts-in Z (tables Z t) .place e)) t t′
   pub stays : Stays (tables Z t) (tables Z t′)
   pub joints : JointsStay (tables Z t) (tables Z t′)
-  pub below : Below (contacts-in Z (tables Z t)) (contacts-in Z (tables Z t′)) (contacts-in Z (tables Z t) .home e) (contacts-in Z (tables Z t) .place e)
+  pub left : Left (contacts-in Z (tables Z t)) (contacts-in Z (tables Z t′)) (contacts-in Z (tables Z t) .home e) (contacts-in Z (tables Z t) .place e)
 
 -- the joint link at the place p went, and its place of the key table is free
 pub record JointGone (Z : Sizes) (p : ℕ) (t t′ : List ℕ) : Type 0 where
@@ -91,7 +92,7 @@ pub record JointGone (Z : Sizes) (p : ℕ) (t t′ : List ℕ) : Type 0 where
   pub taken : Sound Z t → JointTaken Z (joints-in Z (tables Z t) .home p) (joints-in Z (tables Z t) .place p) t t′
   pub stays : Stays (tables Z t) (tables Z t′)
   pub contacts : ContactsStay (tables Z t) (tables Z t′)
-  pub below : Below (joints-in Z (tables Z t)) (joints-in Z (tables Z t′)) (joints-in Z (tables Z t) .home p) (joints-in Z (tables Z t) .place p)
+  pub left : Left (joints-in Z (tables Z t)) (joints-in Z (tables Z t′)) (joints-in Z (tables Z t) .home p) (joints-in Z (tables Z t) .place p)
 
 -- the bodies of the slots in use, and where they are, as before
 pub record BodiesStay (Z : Sizes) (T U : Tables) : Type 0 where

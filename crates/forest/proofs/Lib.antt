@@ -1,0 +1,11 @@
+pub mod Cases
+pub mod Paths
+pub mod Labels
+pub mod Tallies
+pub mod Climb
+pub mod Grow
+pub mod Fresh
+pub mod Merge
+pub mod Largest
+pub mod Counts
+pub mod Leaders

@@ -1,0 +1,118 @@
+// The components of an island: a label for each of its bodies, read from the tables.
+ghost use mathlib.Core.Path.{_≡_};
+ghost use mathlib.Core.Logic.{_≢_};
+ghost use mathlib.Core.List.{[], _∷_};
+ghost use Prim.Native.Nat.{ℕ, _+_, _≤_};
+ghost use lib.ListN.{length};
+ghost use Rattle.lists.specs.Rules.{none};
+ghost use Rattle.lists.specs.Table.{pick};
+ghost use Rattle.state.specs.Split.{node-of};
+ghost use Rattle.tables.specs.Layout.{tables, tableOf, tableLong, chain-in};
+ghost use Rattle.tables.specs.Decode.{worldOf};
+ghost use Rattle.tables.specs.Sound.{Sound};
+ghost use Rattle.steps.specs.Steps.{handle};
+ghost use Rattle.forest.specs.Forest.{at};
+ghost use Rattle.groups.specs.Ends.{pairAt, pairsIn, pairEnds, Goes, Over, Walks};
+ghost use Rattle.groups.specs.Labelled.{Ready, Labelled};
+use kinds::NONE;
+use kinds::Sizes;
+use tables::Table;
+
+// How many components an island has, and the label of the one that keeps its number.
+pub struct Shape {
+    pub components: u32,
+    pub keep: u32,
+}
+
+// The place of a handle's body in the island i: NONE where it is no member of i.
+pub fn node_of(t: &[u32], z: Sizes, i: u32, slot: u32, generation: u32) -> u32
+    requires { ⌜ Sound z (now t) × (i ≢ none) ⌝ }
+    ensures { λ r. ⌜ r ≡ node-of (worldOf z (now (t .entry))) i (handle slot generation) ⌝ }
+{
+    let j = contacts::body_island(t, z, slot, generation);
+    if j != i {
+        return NONE;
+    }
+    store::get(t, z, Table::Members, 4 * (slot as usize) + 1)
+}
+
+// The link whose two handles are the four words at j of the table w: where both ends are members of i, their places are joined. Says whether they were apart.
+fn join_link(
+    t: &[u32],
+    z: Sizes,
+    w: Table,
+    j: usize,
+    i: u32,
+    parent: &mut [u32],
+    size: &mut [u32],
+) -> bool
+    requires { ⌜ Over z (now t) i (now parent) (now size) × (j + 4 ≤ tableLong z w) ⌝ }
+    ensures { λ r. ⌜ Goes (length (now (parent .entry))) (at (now (parent .entry))) (at (now (parent .exit))) (at (now (size .exit))) (pairEnds (worldOf z (now (t .entry))) i (pairAt (tableOf w (tables z (now (t .entry)))) j ∷ [])) (pick r 1 0) ⌝ }
+{
+    let s1 = store::get(t, z, w, j);
+    let g1 = store::get(t, z, w, j + 1);
+    let a = node_of(t, z, i, s1, g1);
+    if a == NONE {
+        return false;
+    }
+    let s2 = store::get(t, z, w, j + 2);
+    let g2 = store::get(t, z, w, j + 3);
+    let b = node_of(t, z, i, s2, g2);
+    if b == NONE {
+        return false;
+    }
+    forest::join(parent, size, a, b)
+}
+
+// Every link of the list i of the chain table k, from the last to the first; the link e has its handles at a * e + b of the table w. Gives the number of joins that did something.
+fn join_links(
+    t: &[u32],
+    z: Sizes,
+    k: Table,
+    w: Table,
+    a: usize,
+    b: usize,
+    i: u32,
+    parent: &mut [u32],
+    size: &mut [u32],
+) -> u32
+    requires { ⌜ Over z (now t) i (now parent) (now size) × Walks z (now t) k w a b i ⌝ }
+    ensures { λ r. ⌜ Goes (length (now (parent .entry))) (at (now (parent .entry))) (at (now (parent .exit))) (at (now (size .exit))) (pairEnds (worldOf z (now (t .entry))) i (pairsIn (chain-in z k (tables z (now (t .entry)))) (tableOf w (tables z (now (t .entry)))) a b i)) r ⌝ }
+{
+    let mut left = store::count(t, z, k, i);
+    let mut e = store::last(t, z, k, i);
+    let mut joins: u32 = 0;
+    // One turn for each link of the list: as many as the list's count, at most as many as the table has room for.
+    while left > 0 {
+        let j = a * (e as usize) + b;
+        if join_link(t, z, w, j, i, parent, size) {
+            joins += 1;
+        }
+        e = store::get(t, z, k, 4 * (e as usize) + 2);
+        left -= 1;
+    }
+    joins
+}
+
+// The labels of the bodies of the live island i, the number of its components, and the label of the largest. Each slice has one word for each body.
+pub fn label_island(
+    t: &[u32],
+    z: Sizes,
+    i: u32,
+    parent: &mut [u32],
+    size: &mut [u32],
+    first: &mut [u32],
+    labels: &mut [u32],
+) -> Shape
+    requires { ⌜ Ready z (now t) i (now parent) (now size) (now first) (now labels) ⌝ }
+    ensures { λ r. ⌜ Labelled z (now (t .entry)) i (now (labels .exit)) r ⌝ }
+{
+    forest::clear(parent, size);
+    let x = join_links(t, z, Table::Joints, Table::Keys, 8, 4, i, parent, size);
+    let y = join_links(t, z, Table::Contacts, Table::Touches, 4, 0, i, parent, size);
+    forest::name(parent, first, labels);
+    let keep = forest::keep(parent, size);
+    let n = parent.len() as u32;
+    let components = n - x - y;
+    Shape { components, keep }
+}

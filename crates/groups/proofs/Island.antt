@@ -16,9 +16,10 @@ use Rattle.tables.specs.Layout.{tables, extents, members-in, contacts-in, joint
 use Rattle.tables.specs.Decode.{handleAt, contactAt, jointAt, worldOf}
 use Rattle.tables.specs.Sound.{Sound}
 use Rattle.steps.proofs.Names.{island-at}
-use Rattle.forest.specs.Groups.{Groups}
+use Rattle.forest.specs.Groups.{Inside, Groups}
 use Rattle.forest.specs.Forest.{at, rootOf, Forest, Stands, NameReady}
 use Rattle.forest.proofs.Counts.{components-none}
+use Rattle.forest.proofs.Labels.{length-label}
 use Rattle.groups.specs.Ends.{pairAt, pairsIn, pairEnds, Goes, Over, Walks}
 use Rattle.groups.specs.Labelled.{Ready, Labelled}
 use Rattle.groups.proofs.Nodes.{bodies-are}
@@ -174,4 +175,5 @@ module _ {Z : Sizes} {t : List ℕ} {i : ℕ} {parent size first labels : List �
             labels-are = N _ G ∙ e;
             components-are = (let c = joins-fit in let d = ap components e in omega arith);
             keep-is = M _ G ∙ ap keepLabel e;
+            inside = subst (Inside (linksOf (worldOf Z t) i)) (sym (ap length (N _ G) ∙ length-label (linksOf (worldOf Z t) i) m2)) (G .inside);
           }

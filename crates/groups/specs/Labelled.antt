@@ -5,11 +5,12 @@ use Prim.Native.Nat.{ℕ, _≤_}
 use lib.ListN.{length}
 use Rattle.kinds.specs.declared.Sizes.{Sizes}
 use Rattle.state.specs.Connected.{components, keepLabel}
-use Rattle.state.specs.Split.{labelsOf}
+use Rattle.state.specs.Split.{linksOf, labelsOf}
 use Rattle.tables.specs.Layout.{tables, members-in}
 use Rattle.tables.specs.Decode.{worldOf}
 use Rattle.tables.specs.Sound.{Sound}
 use Rattle.steps.specs.Lives.{Lives}
+use Rattle.forest.specs.Groups.{Inside}
 use Rattle.groups.specs.declared.Shape.{Shape}
 
 -- each slice has one word for each body of the island
@@ -26,3 +27,5 @@ pub record Labelled (Z : Sizes) (t : List ℕ) (i : ℕ) (labels : List ℕ) (r 
   pub labels-are : labels ≡ labelsOf (worldOf Z t) i
   pub components-are : r .components ≡ components (labelsOf (worldOf Z t) i)
   pub keep-is : r .keep ≡ keepLabel (labelsOf (worldOf Z t) i)
+  -- a link's ends are places of the island's bodies
+  pub inside : Inside (linksOf (worldOf Z t) i) (length labels)

@@ -1,7 +1,7 @@
 -- A body leaves its island, which is freed where it was the last one; the pending split of an island is forgotten.
 use mathlib.Core.Path.{_≡_, refl, sym, _∙_, ap}
-use mathlib.Core.Logic.{inl, inr, _≢_, ⊎-elim}
-use mathlib.Core.Option.{none as nothing}
+use mathlib.Core.Logic.{_⊎_, inl, inr, _≢_, ⊎-elim}
+use mathlib.Core.Option.{Option, none as nothing}
 use mathlib.Core.List.{List, [], _∷_, _++_}
 use Prim.Native.Nat.{ℕ, _+_, _*_, _<_}
 use native.Mathlib.Omega.{arith}
@@ -16,7 +16,7 @@ use Rattle.lists.proofs.Order.{length-list}
 use Rattle.frame.specs.Part.{Put}
 use Rattle.kinds.specs.declared.Sizes.{Sizes}
 use Rattle.state.specs.Plain.{placeOf, swapRemove, more}
-use Rattle.state.specs.World.{Island, noIsland, islandAt, free-set, split-set, island-set, waits, clear-pending-split-of}
+use Rattle.state.specs.World.{Island, noIsland, done, islandAt, free-set, split-set, island-set, waits, clear-pending-split-of}
 use Rattle.state.specs.Membership.{without}
 use Rattle.tables.specs.Layout.{Tables, tables, total, headAt, headLong, membersAt, membersLong, rowsAt, rowsLong, freedAt, freedLong, head-put, rows-put, freed-put, Extents, extents, members-in, contacts-in, joints-in, freed-in}
 use Rattle.tables.specs.Decode.{flag, pending, decode, worldOf}
@@ -28,7 +28,7 @@ use Rattle.tables.proofs.Chains.{Added, Taken, added, taken, push-ready, remove
 use Rattle.tables.proofs.Frame.{larger-refl, kept-head, extents-is}
 use Rattle.steps.specs.Steps.{Steps, rowWords, leave, leave-last, clear-pending}
 use Rattle.steps.proofs.Good.{island-is, world-is}
-use Rattle.steps.proofs.At.{steps-at, steps-none}
+use Rattle.steps.proofs.At.{steps-at, steps-none, steps-as}
 use Rattle.steps.proofs.Names.{island-at, place-of}
 use Rattle.steps.proofs.Isle.{Aside, set-aside, row-aside, row-0, row-1, row-2, Change, changed, change-good, change-world, change-kept}
 
@@ -225,26 +225,27 @@ pending-yes f n i p q = rw (eq-eqb f 1 p, eq-eqb n i q)
 pending-no : (f n i : ℕ) → (f ≡ 1 → n ≢ i) → pick (waits (pending f n) i) nothing (pending f n) ≡ pending f n
 pending-no f n i d = either f 1 (λ p. rw (eq-eqb f 1 p, ne-eqb n i (d p))) (λ p. rw (ne-eqb f 1 p))
 
-module _ (Z : Sizes) (X : Extents) (T : Tables) (G : Good Z X T) (K : Sized Z T) where
+-- the head's words of it become f and n
+module _ (Z : Sizes) (X : Extents) (T : Tables) (G : Good Z X T) (K : Sized Z T) (f n : ℕ) where
   abbrev H : List ℕ
-  H = writes (T .head) ((5, 0) ∷ (5 + 1, 0) ∷ [])
+  H = writes (T .head) ((5, f) ∷ (5 + 1, n) ∷ [])
 
   head-o : (j : ℕ) → j ≢ 5 → j ≢ 6 → getD H j 0 ≡ getD (T .head) j 0
-  head-o j a b = miss (T .head) ((5, 0) ∷ (5 + 1, 0) ∷ []) j (omega arith)
+  head-o j a b = miss (T .head) ((5, f) ∷ (5 + 1, n) ∷ []) j (omega arith)
 
-  w5 : getD H 5 0 ≡ 0
-  w5 = let l = K .head-length in hit (T .head) [] 5 0 ((5 + 1, 0) ∷ []) (omega arith) (omega arith)
+  w5 : getD H 5 0 ≡ f
+  w5 = let l = K .head-length in hit (T .head) [] 5 f ((5 + 1, n) ∷ []) (omega arith) (omega arith)
 
-  w6 : getD H 6 0 ≡ 0
-  w6 = let l = K .head-length in hit (T .head) ((5, 0) ∷ []) 6 0 [] (omega arith) (omega arith)
+  w6 : getD H 6 0 ≡ n
+  w6 = let l = K .head-length in hit (T .head) ((5, f) ∷ []) 6 n [] (omega arith) (omega arith)
 
   pub clear-extents : extents (head-put T H) ≡ extents T
   clear-extents =
       extents-is (head-o 0 (omega arith) (omega arith)) (head-o 1 (omega arith) (omega arith)) (head-o 2 (omega arith) (omega arith)) (head-o 3 (omega arith) (omega arith))
       (head-o 4 (omega arith) (omega arith))
 
-  clear-good : Good Z X (head-put T H)
-  clear-good =
+  set-good : ((f ≡ 0) × (n ≡ 0)) ⊎ (f ≡ 1) → Good Z X (head-put T H)
+  set-good r =
       record {
         enough = G .enough;
         slots-le = G .slots-le;
@@ -264,25 +265,29 @@ module _ (Z : Sizes) (X : Extents) (T : Tables) (G : Good Z X T) (K : Sized Z T)
         edge = G .edge;
         joint = G .joint;
         distinct = G .distinct;
-        head = record { split = inl (w5, w6); scan = rw (head-o 8 (omega arith) (omega arith)) (G .head .scan) };
+        head = record { split = ⊎-elim (λ x. inl (w5 ∙ x .0, w6 ∙ x .1)) (λ x. inr (w5 ∙ x)) r; scan = rw (head-o 8 (omega arith) (omega arith)) (G .head .scan) };
       }
 
-  clear-world : (i : ℕ) → getD (T .head) 5 0 ≡ 1 → getD (T .head) 6 0 ≡ i → decode Z X (head-put T H) ≡ clear-pending-split-of i (decode Z X T)
-  unfolding clear-pending-split-of
-  clear-world i p q =
-      world-is refl refl refl refl refl refl refl (rw w5 (sym (pending-yes _ _ i p q))) (head-o 7 (omega arith) (omega arith)) (ap flag (head-o 8 (omega arith) (omega arith))) refl
+  set-world : decode Z X (head-put T H) ≡ split-set (decode Z X T) (pending f n)
+  set-world =
+      world-is refl refl refl refl refl refl refl (rw (w5, w6)) (head-o 7 (omega arith) (omega arith)) (ap flag (head-o 8 (omega arith) (omega arith))) refl
 
-pub pending-cleared : {Z : Sizes} {t t1 : List ℕ} (i : ℕ) → Sound Z t → getD (tables Z t .head) 5 0 ≡ 1 → getD (tables Z t .head) 6 0 ≡ i
-    → Put (headAt Z) (headLong Z) t t1 (writes (tables Z t .head) ((5, 0) ∷ (5 + 1, 0) ∷ [])) → Steps Z (clear-pending i) t t1
-unfolding clear-pending
-pending-cleared {Z} {t} {t1} i S p q P =
+pub pending-put : {Z : Sizes} {t t1 : List ℕ} (f n : ℕ) → Sound Z t → ((f ≡ 0) × (n ≡ 0)) ⊎ (f ≡ 1) → Put (headAt Z) (headLong Z) t t1 (writes (tables Z t .head) ((5, f) ∷ (5 + 1, n) ∷ []))
+    → Steps Z (λ w. done (split-set w (pending f n))) t t1
+pending-put {Z} {t} {t1} f n S r P =
     let T = tables Z t in
     let X = extents T in
     let K = sized Z t (S .long) in
-    steps-at t1 (clear-pending-split-of i) X _ (put-head Z t t1 _ (S .long) P) (clear-extents Z X T (S .good) K) (P .same-length ∙ S .long) (clear-good Z X T (S .good) K)
-    (clear-world Z X T (S .good) K i p q)
+    steps-at t1 (λ w. split-set w (pending f n)) X _ (put-head Z t t1 _ (S .long) P) (clear-extents Z X T (S .good) K f n) (P .same-length ∙ S .long) (set-good Z X T (S .good) K f n r)
+    (set-world Z X T (S .good) K f n)
     kept-head
     (larger-refl X)
+
+pub pending-cleared : {Z : Sizes} {t t1 : List ℕ} (i : ℕ) → Sound Z t → getD (tables Z t .head) 5 0 ≡ 1 → getD (tables Z t .head) 6 0 ≡ i
+    → Put (headAt Z) (headLong Z) t t1 (writes (tables Z t .head) ((5, 0) ∷ (5 + 1, 0) ∷ [])) → Steps Z (clear-pending i) t t1
+unfolding clear-pending clear-pending-split-of worldOf
+pending-cleared {Z} {t} i S p q P =
+    steps-as (λ w. done (split-set w (pending 0 0))) (clear-pending i) (ap (λ (x : Option ℕ). done (split-set (worldOf Z t) x)) (sym (pending-yes _ _ i p q))) (pending-put 0 0 S (inl (refl, refl)) P)
 
 pub pending-kept : {Z : Sizes} {t : List ℕ} (i : ℕ) → Sound Z t → (getD (tables Z t .head) 5 0 ≡ 1 → getD (tables Z t .head) 6 0 ≢ i) → Steps Z (clear-pending i) t t
 unfolding clear-pending clear-pending-split-of worldOf

@@ -352,7 +352,7 @@ forgot-cleared {Z} {t} {t1} i S p q P =
     let h : tables Z t1 .head ≡ writes (T .head) ((5, 0) ∷ (5 + 1, 0) ∷ []) = ap (λ (W : Tables). W .head) e in
     record {
       steps = pending-cleared i S p q P;
-      extents-same = ap extents e ∙ clear-extents Z (extents T) T (S .good) (sized Z t (S .long));
+      extents-same = ap extents e ∙ clear-extents Z (extents T) T (S .good) (sized Z t (S .long)) 0 0;
       rest = e ∙ ap (λ (x : List ℕ). head-put T x) (sym h);
     }
 

@@ -192,4 +192,5 @@ module _ {Z : Sizes} {t0 : List ℕ} (base keep : ℕ) (goals : List ℕ) (K : K
             let g = K .gets i (omega arith) f0 z in
             subst (λ (k : ℕ). 0 < S .count k) (g .goal-is) (I .passed (g .place) (omega arith) (g .place-lt) (λ x. d (sym (g .goal-is) ∙ x))))
             (λ z. (let a = I .more i (omega arith) d in omega arith)));
+        base-some = (let a = I .kept (omega arith) in omega arith);
       }

@@ -85,6 +85,7 @@ module _ (Z : Sizes) (base : ℕ) (goals t t′ : List ℕ) where
   pub record BodiesLeft : Type 0 where
     pub moves : Moves Z (bodiesLeave (goes goals) base (members-in Z (tables Z t) .count base)) t t′
     pub peopled : Peopled Z (extents (tables Z t′)) (tables Z t′)
+    pub base-some : 0 < members-in Z (tables Z t′) .count base
 
 -- a place whose body goes to i
 pub record GoalOf (goals : List ℕ) (i : ℕ) : Type 0 where

@@ -12,7 +12,16 @@ use kinds::Sizes;
 use tables::Table;
 
 // Where a link goes: with its first end that is a member of base, else with its second; NONE: with neither.
-pub fn link_goal(t: &[u32], z: Sizes, base: u32, goals: &[u32], s1: u32, g1: u32, s2: u32, g2: u32) -> u32
+pub fn link_goal(
+    t: &[u32],
+    z: Sizes,
+    base: u32,
+    goals: &[u32],
+    s1: u32,
+    g1: u32,
+    s2: u32,
+    g2: u32,
+) -> u32
     requires { ⌜ Goals z base (now goals) (now t) ⌝ }
     ensures { λ r. ⌜ r ≡ linkGoal (goes (now (goals .entry))) (nodeAt z (tables z (now (t .entry))) base (handle s1 g1)) (nodeAt z (tables z (now (t .entry))) base (handle s2 g2)) ⌝ }
 {

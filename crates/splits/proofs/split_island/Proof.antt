@@ -1,0 +1,122 @@
+use native.Mathlib.Omega.{arith}
+use mathlib.Core.Path.{_≡_, refl, sym, _∙_, ap, subst}
+use mathlib.Core.Logic.{_⊎_, _≢_, inl, inr}
+use Prim.Native.Nat.{ℕ, _+_, _-_, _*_, _≤_, _<_}
+use denote.Ref.{now}
+use Rattle.tables.specs.Layout.{tables, extents}
+use Rattle.state.specs.Connected.{keepLabel}
+use Rattle.splits.specs.Part.{PartReady}
+use Rattle.splits.proofs.Check.{split-whole, split-parts}
+use Rattle.splits.proofs.Part.{labels-count}
+use borrow.Author.Needs.{needs}
+use Rattle.splits.proofs.split_island.Statement.{statement}
+use Rattle.splits.proofs.split_island.Tie as tie
+use Rattle.splits.proofs.split_island.Reads as reads
+use Rattle.splits.proofs.split_island.Lts as lts
+use Rattle.groups.proofs.label_island.Reads as label-island-reads
+use Rattle.splits.proofs.check_island.Reads as check-island-reads
+use Rattle.splits.proofs.part_island.Reads as part-island-reads
+
+label-island-requires : tie.Need-label-island-requires
+label-island-requires c κs = search needs
+
+check-island-requires : tie.Need-check-island-requires
+check-island-requires c κs = search needs
+
+same-length : tie.Need-same-length
+same-length c = search needs
+
+same-length-2 : tie.Need-same-length-2
+same-length-2 c = search needs
+
+same-length-3 : tie.Need-same-length-3
+same-length-3 c = search needs
+
+same-length-4 : tie.Need-same-length-4
+same-length-4 c = search needs
+
+same-length-5 : tie.Need-same-length-5
+same-length-5 c = search needs
+
+returns : tie.Need-returns
+returns c =
+    let c2 = c .before .before in
+    let t-check-island = c2 .check-island in
+    let c4 = c2 .before .before in
+    let t-if1 = c4 .if1 in
+    let c14 = c4 .before .before .before .before .before .before .before .before .before .before in
+    let t-label-island = c14 .label-island in
+    let c26 = c14 .before .before .before .before .before .before .before .before .before .before .before .before in
+    let t-args = c26 .args in
+    split-whole (t-args .i) (t-label-island .result .components) (t-label-island .ensures .components-are) (t-if1 .taken) (t-check-island .ensures)
+
+part-island-requires : tie.Need-part-island-requires
+part-island-requires c κs =
+    let c13 = c .before .before .before .before .before .before .before .before .before .before .before .before .before in
+    let t-label-island = c13 .label-island in
+    let c25 = c13 .before .before .before .before .before .before .before .before .before .before .before .before in
+    let t-args = c25 .args in
+    let t-pre = c25 .pre in
+    (record { sound = t-pre .sound; lives = t-pre .lives; labels-are = t-label-island .ensures .labels-are; keep-is = t-label-island .ensures .keep-is ∙ ap keepLabel (sym (t-label-island .ensures .labels-are)); inside = t-label-island .ensures .inside; goals-long = t-pre .goals-long ∙ sym (labels-count (t-args .i) (t-pre .sound) (t-pre .lives) (t-label-island .ensures .labels-are)) })
+
+check-island-requires-2 : tie.Need-check-island-requires-2
+check-island-requires-2 c κs = search needs
+
+same-length-6 : tie.Need-same-length-6
+same-length-6 c =
+    let c2 = c .before .before in
+    let t-check-island2 = c2 .check-island2 in
+    let c34 = c2 .before .before .before .before .before .before .before .before .before .before .before .before .before .before .before .before .before .before .before .before .before .before .before .before .before .before .before .before .before .before .before .before in
+    let t-pre = c34 .pre in
+    t-check-island2 .ensures .does .sound .long ∙ sym (t-pre .sound .long)
+
+same-length-7 : tie.Need-same-length-7
+same-length-7 c = search needs
+
+same-length-8 : tie.Need-same-length-8
+same-length-8 c = search needs
+
+same-length-9 : tie.Need-same-length-9
+same-length-9 c = search needs
+
+same-length-10 : tie.Need-same-length-10
+same-length-10 c = search needs
+
+same-length-11 : tie.Need-same-length-11
+same-length-11 c = search needs
+
+returns-2 : tie.Need-returns-2
+returns-2 c =
+    let c2 = c .before .before in
+    let t-check-island2 = c2 .check-island2 in
+    let c8 = c2 .before .before .before .before .before .before in
+    let t-part-island = c8 .part-island in
+    let c12 = c8 .before .before .before .before in
+    let t-if1 = c12 .if1 in
+    let c22 = c12 .before .before .before .before .before .before .before .before .before .before in
+    let t-label-island = c22 .label-island in
+    let c34 = c22 .before .before .before .before .before .before .before .before .before .before .before .before in
+    let t-args = c34 .args in
+    split-parts (t-args .i) (t-label-island .result .components) (t-label-island .ensures .components-are) (t-if1 .left) (t-part-island .ensures) (t-check-island2 .ensures)
+
+pub split-island-spec : {M : Type 1} → statement M
+split-island-spec =
+    tie.close
+    (tie.spec
+    label-island-requires
+    check-island-requires
+    same-length
+    same-length-2
+    same-length-3
+    same-length-4
+    same-length-5
+    returns
+    part-island-requires
+    check-island-requires-2
+    same-length-6
+    same-length-7
+    same-length-8
+    same-length-9
+    same-length-10
+    same-length-11
+    returns-2)

@@ -1,0 +1,57 @@
+-- The split of an island on sound tables.
+use mathlib.Core.Path.{_≡_}
+use mathlib.Core.List.{List}
+use Prim.Native.Nat.{ℕ, _≤_}
+use lib.ListN.{length}
+use Rattle.kinds.specs.declared.Sizes.{Sizes}
+use Rattle.state.specs.World.{World, Step, done}
+use Rattle.state.specs.Connected.{keepLabel}
+use Rattle.state.specs.Split.{linksOf, labelsOf, parted, checked, split}
+use Rattle.tables.specs.Layout.{tables, members-in}
+use Rattle.tables.specs.Decode.{worldOf}
+use Rattle.tables.specs.Sound.{Sound}
+use Rattle.steps.specs.Steps.{Steps}
+use Rattle.steps.specs.Lives.{Lives}
+use Rattle.forest.specs.Groups.{Inside}
+
+unfoldable pub parting : ℕ → World → Step
+parting i w = done (parted i w)
+
+unfoldable pub checking : ℕ → World → Step
+checking i w = done (checked i w)
+
+unfoldable pub splitting : ℕ → World → Step
+splitting i w = done (split i w)
+
+-- the labels are those of the island's bodies
+pub record PartReady (Z : Sizes) (base keep : ℕ) (L goals t : List ℕ) : Type 0 where
+  pub sound : Sound Z t
+  pub lives : Lives Z t base
+  pub labels-are : L ≡ labelsOf (worldOf Z t) base
+  pub keep-is : keep ≡ keepLabel L
+  pub inside : Inside (linksOf (worldOf Z t) base) (length L)
+  pub goals-long : length goals ≡ length L
+
+pub record Parts (Z : Sizes) (base : ℕ) (t t′ : List ℕ) : Type 0 where
+  pub steps : Steps Z (parting base) t t′
+  pub lives : Lives Z t′ base
+
+-- five slices of one word for each body of the island
+pub record SplitReady (Z : Sizes) (i : ℕ) (t parent size first labels goals : List ℕ) : Type 0 where
+  pub sound : Sound Z t
+  pub lives : Lives Z t i
+  pub few : Z .slots ≤ 4096
+  pub parent-long : length parent ≡ members-in Z (tables Z t) .count i
+  pub size-long : length size ≡ members-in Z (tables Z t) .count i
+  pub first-long : length first ≡ members-in Z (tables Z t) .count i
+  pub labels-long : length labels ≡ members-in Z (tables Z t) .count i
+  pub goals-long : length goals ≡ members-in Z (tables Z t) .count i
+
+-- five slices with a word for each slot, of which there are at most 4096
+pub record Scratch (Z : Sizes) (parent size first labels goals : List ℕ) : Type 0 where
+  pub few : Z .slots ≤ 4096
+  pub parent-long : Z .slots ≤ length parent
+  pub size-long : Z .slots ≤ length size
+  pub first-long : Z .slots ≤ length first
+  pub labels-long : Z .slots ≤ length labels
+  pub goals-long : Z .slots ≤ length goals

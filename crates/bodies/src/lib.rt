@@ -66,7 +66,7 @@ pub fn grow_slots(t: &mut [u32], z: Sizes, k: u32)
 }
 
 // A flag's word.
-fn bit(b: bool) -> u32
+pub fn bit(b: bool) -> u32
     ensures { λ r. ⌜ r ≡ bitOf b ⌝ }
 {
     if b {

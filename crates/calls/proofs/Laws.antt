@@ -1,5 +1,5 @@
 -- A call from its audit's answer.
-use mathlib.Core.Path.{_≡_, refl, sym, _∙_}
+use mathlib.Core.Path.{_≡_, refl, sym, _∙_, ap}
 use mathlib.Core.Logic.{inl, inr}
 use mathlib.Core.Bool.{Bool, true, false, not, false≢true}
 use mathlib.Core.List.{List}
@@ -8,11 +8,15 @@ use borrow.Author.Tests.{not-true, not-false}
 use Rattle.lists.specs.Rules.{Is}
 use Rattle.kinds.specs.declared.Sizes.{Sizes}
 use Rattle.kinds.specs.declared.Answer.{Answer}
-use Rattle.kinds.specs.declared.Answer.the-variants.{BadTables}
+use Rattle.kinds.specs.declared.Answer.the-variants.{Done, BadTables}
 use Rattle.state.specs.World.{World, Step}
 use Rattle.tables.specs.Decode.{worldOf}
 use Rattle.tables.specs.Sound.{Sound}
 use Rattle.tables.specs.Does.{Does, Call, Asks}
+use Rattle.kinds.specs.declared.BidAnswer.{BidAnswer}
+use Rattle.state.specs.Split.{split-allowed}
+use Rattle.calls.specs.Refusal.{bidOf}
+use Rattle.scans.specs.Listing.{Finishes, Finish}
 
 -- the audit said yes
 pub sound-is : (Z : Sizes) (t : List ℕ) (b : Bool) → Is b (Sound Z t) → not b ≡ false → Sound Z t
@@ -32,3 +36,14 @@ asks-no Z f n t b a e = inr (unsound-is Z t b a e, refl)
 
 pub asks-yes : {A : Type 0} (Z : Sizes) (f : World → A) (n : A) (t : List ℕ) (b : Bool) {r : A} → Is b (Sound Z t) → not b ≡ false → r ≡ f (worldOf Z t) → Asks Z f n t r
 asks-yes Z f n t b a e q = inl (sound-is Z t b a e, q)
+
+pub finish-no : (Z : Sizes) (t out : List ℕ) (b : Bool) → Is b (Sound Z t) → not b ≡ true → Finish Z t out BadTables 0 t out
+finish-no Z t out b a e = inr (record { refuses = record { unsound = unsound-is Z t b a e; nine = refl; same = refl }; length-is = refl; out-is = refl })
+
+pub finish-yes : (Z : Sizes) (t out : List ℕ) (b : Bool) {r : Answer} {n : ℕ} {t′ out′ : List ℕ} → Is b (Sound Z t) → not b ≡ false → Finishes Z t out r n t′ out′ → Finish Z t out r n t′ out′
+finish-yes Z t out b a e F = inl (sound-is Z t b a e, F)
+
+-- the answer to "may this island bid", by its two parts
+pub bid-is : (i : ℕ) (w : World) {b : Bool} → b ≡ split-allowed i w → _≡_ {A = BidAnswer} (record { answer = Done; yes = b }) (bidOf i w)
+unfolding bidOf
+bid-is i w e = ap (λ (x : Bool). record { answer = Done; yes = x }) e

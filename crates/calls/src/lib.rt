@@ -10,14 +10,20 @@ ghost use Rattle.steps.specs.Chaining.{handlesFrom};
 ghost use lib.ListN.{length};
 ghost use Prim.Native.Nat.{_/_, _%_};
 ghost use Rattle.tables.specs.Does.{Call, Asks, Reset};
-ghost use Rattle.calls.specs.Refusal.{noIsland};
+ghost use Rattle.state.specs.Split.{split-island-now, schedule-split, run-pending-split};
+ghost use Rattle.calls.specs.Refusal.{noIsland, bidOf, noBid};
 ghost use Rattle.calls.specs.Keys.{keyIs};
 ghost use Rattle.steps.specs.Steps.{handle};
+ghost use Rattle.state.specs.Scan.{begin-sleep-scan, observe-body-for-sleep, mark-island-sleeping, wake-island};
+ghost use Rattle.scans.specs.Listing.{Finish};
 use kinds::Answer;
+use kinds::BidAnswer;
 use kinds::Edge;
 use kinds::Handle;
+use kinds::Island;
 use kinds::IslandAnswer;
 use kinds::JointKey;
+use kinds::Listed;
 use kinds::Sizes;
 
 pub mod sized;
@@ -148,4 +154,100 @@ pub fn resolve(t: &mut [u32]) -> Answer
     ensures { λ r. ⌜ Call rig resolve-removals (now (t .entry)) r (now (t .exit)) ⌝ }
 {
     sized::resolve(t, Sizes::RIG)
+}
+
+// Opens a sleep scan, anew where one is open.
+pub fn begin(t: &mut [u32]) -> Answer
+    ensures { λ r. ⌜ Call rig begin-sleep-scan (now (t .entry)) r (now (t .exit)) ⌝ }
+{
+    sized::begin(t, Sizes::RIG)
+}
+
+// A body of the island was looked at, and may sleep or not.
+pub fn observe(t: &mut [u32], island: Island, eligible: bool) -> Answer
+    ensures { λ r. ⌜ Call rig (observe-body-for-sleep (island .0) eligible) (now (t .entry)) r (now (t .exit)) ⌝ }
+{
+    let i = island.0;
+    sized::observe(t, Sizes::RIG, i, eligible)
+}
+
+// Lists the islands that may sleep, in order of first observation, and closes the scan.
+pub fn finish(t: &mut [u32], out: &mut [u32]) -> Listed
+    ensures { λ r. ⌜ Finish rig (now (t .entry)) (now (out .entry)) (r .answer) (r .length) (now (t .exit)) (now (out .exit)) ⌝ }
+{
+    sized::finish(t, Sizes::RIG, out)
+}
+
+// The island sleeps; a pending split of it is cleared.
+pub fn sleep(t: &mut [u32], island: Island) -> Answer
+    ensures { λ r. ⌜ Call rig (mark-island-sleeping (island .0)) (now (t .entry)) r (now (t .exit)) ⌝ }
+{
+    let i = island.0;
+    sized::sleep(t, Sizes::RIG, i)
+}
+
+// The island wakes.
+pub fn wake(t: &mut [u32], island: Island) -> Answer
+    ensures { λ r. ⌜ Call rig (wake-island (island .0)) (now (t .entry)) r (now (t .exit)) ⌝ }
+{
+    let i = island.0;
+    sized::wake(t, Sizes::RIG, i)
+}
+
+// Splits a live island into its components.
+pub fn split(t: &mut [u32], island: Island) -> Answer
+    ensures { λ r. ⌜ Call rig (split-island-now (island .0)) (now (t .entry)) r (now (t .exit)) ⌝ }
+{
+    let i = island.0;
+    let mut parent = [0u32; 4096];
+    let mut size = [0u32; 4096];
+    let mut first = [0u32; 4096];
+    let mut labels = [0u32; 4096];
+    let mut goals = [0u32; 4096];
+    sized::split(
+        t,
+        Sizes::RIG,
+        i,
+        &mut parent,
+        &mut size,
+        &mut first,
+        &mut labels,
+        &mut goals,
+    )
+}
+
+// The island waits for its split; any number.
+pub fn schedule(t: &mut [u32], island: Island) -> Answer
+    ensures { λ r. ⌜ Call rig (schedule-split (island .0)) (now (t .entry)) r (now (t .exit)) ⌝ }
+{
+    let i = island.0;
+    sized::schedule(t, Sizes::RIG, i)
+}
+
+// Runs the waiting split.
+pub fn run(t: &mut [u32]) -> Answer
+    ensures { λ r. ⌜ Call rig run-pending-split (now (t .entry)) r (now (t .exit)) ⌝ }
+{
+    let mut parent = [0u32; 4096];
+    let mut size = [0u32; 4096];
+    let mut first = [0u32; 4096];
+    let mut labels = [0u32; 4096];
+    let mut goals = [0u32; 4096];
+    sized::run(
+        t,
+        Sizes::RIG,
+        &mut parent,
+        &mut size,
+        &mut first,
+        &mut labels,
+        &mut goals,
+    )
+}
+
+// May the island bid for a split?
+pub fn bid(t: &[u32], island: Island) -> BidAnswer
+    ensures { λ r. ⌜ Asks rig (bidOf (island .0)) noBid (now (t .entry)) r ⌝ }
+{
+    let i = island.0;
+    sized::bid(t, Sizes::RIG, i)
 }

@@ -9,13 +9,19 @@ ghost use Rattle.state.specs.Chain.{refresh-multibody-chain};
 ghost use Rattle.steps.specs.Chaining.{handlesFrom};
 ghost use lib.ListN.{length};
 ghost use Rattle.tables.specs.Does.{Call, Asks};
-ghost use Rattle.calls.specs.Refusal.{noIsland};
+ghost use Rattle.state.specs.Split.{split-island-now, schedule-split, run-pending-split};
+ghost use Rattle.splits.specs.Part.{Scratch};
+ghost use Rattle.calls.specs.Refusal.{noIsland, bidOf, noBid};
 ghost use Rattle.calls.specs.Keys.{keyIs};
 ghost use Rattle.steps.specs.Steps.{handle};
+ghost use Rattle.state.specs.Scan.{begin-sleep-scan, observe-body-for-sleep, mark-island-sleeping, wake-island};
+ghost use Rattle.scans.specs.Listing.{Finish};
 use kinds::Answer;
+use kinds::BidAnswer;
 use kinds::Island;
 use kinds::IslandAnswer;
 use kinds::JointKey;
+use kinds::Listed;
 use kinds::NONE;
 use kinds::Sizes;
 
@@ -191,4 +197,119 @@ pub fn chain(t: &mut [u32], z: Sizes, multibody: u64, list: &[u32]) -> Answer
     let high = high_half(multibody);
     let low = low_half(multibody);
     refresh::refresh_on(t, z, high, low, list, n as u32)
+}
+
+// ---- the sleep scan
+
+pub fn begin(t: &mut [u32], z: Sizes) -> Answer
+    ensures { λ r. ⌜ Call z begin-sleep-scan (now (t .entry)) r (now (t .exit)) ⌝ }
+{
+    if !whole::sound(t, z) {
+        return Answer::BadTables;
+    }
+    scans::begin_on(t, z)
+}
+
+pub fn observe(t: &mut [u32], z: Sizes, i: u32, eligible: bool) -> Answer
+    ensures { λ r. ⌜ Call z (observe-body-for-sleep i eligible) (now (t .entry)) r (now (t .exit)) ⌝ }
+{
+    if !whole::sound(t, z) {
+        return Answer::BadTables;
+    }
+    scans::observe_on(t, z, i, eligible)
+}
+
+// The list stands at the front of the output, which is written only at the answer Done.
+pub fn finish(t: &mut [u32], z: Sizes, out: &mut [u32]) -> Listed
+    ensures { λ r. ⌜ Finish z (now (t .entry)) (now (out .entry)) (r .answer) (r .length) (now (t .exit)) (now (out .exit)) ⌝ }
+{
+    if !whole::sound(t, z) {
+        return Listed {
+            answer: Answer::BadTables,
+            length: 0,
+        };
+    }
+    scans::finish_on(t, z, out)
+}
+
+pub fn sleep(t: &mut [u32], z: Sizes, i: u32) -> Answer
+    ensures { λ r. ⌜ Call z (mark-island-sleeping i) (now (t .entry)) r (now (t .exit)) ⌝ }
+{
+    if !whole::sound(t, z) {
+        return Answer::BadTables;
+    }
+    scans::sleep_on(t, z, i)
+}
+
+pub fn wake(t: &mut [u32], z: Sizes, i: u32) -> Answer
+    ensures { λ r. ⌜ Call z (wake-island i) (now (t .entry)) r (now (t .exit)) ⌝ }
+{
+    if !whole::sound(t, z) {
+        return Answer::BadTables;
+    }
+    scans::wake_on(t, z, i)
+}
+
+// ---- the split. Its scratch is lent: five slices with a word for each slot, whatever they hold.
+
+pub fn split(
+    t: &mut [u32],
+    z: Sizes,
+    i: u32,
+    parent: &mut [u32],
+    size: &mut [u32],
+    first: &mut [u32],
+    labels: &mut [u32],
+    goals: &mut [u32],
+) -> Answer
+    requires { ⌜ Scratch z (now parent) (now size) (now first) (now labels) (now goals) ⌝ }
+    ensures { λ r. ⌜ Call z (split-island-now i) (now (t .entry)) r (now (t .exit)) ⌝ }
+{
+    if !whole::sound(t, z) {
+        return Answer::BadTables;
+    }
+    splits::split_on(t, z, i, parent, size, first, labels, goals)
+}
+
+pub fn schedule(t: &mut [u32], z: Sizes, i: u32) -> Answer
+    ensures { λ r. ⌜ Call z (schedule-split i) (now (t .entry)) r (now (t .exit)) ⌝ }
+{
+    if !whole::sound(t, z) {
+        return Answer::BadTables;
+    }
+    splits::schedule_on(t, z, i)
+}
+
+pub fn run(
+    t: &mut [u32],
+    z: Sizes,
+    parent: &mut [u32],
+    size: &mut [u32],
+    first: &mut [u32],
+    labels: &mut [u32],
+    goals: &mut [u32],
+) -> Answer
+    requires { ⌜ Scratch z (now parent) (now size) (now first) (now labels) (now goals) ⌝ }
+    ensures { λ r. ⌜ Call z run-pending-split (now (t .entry)) r (now (t .exit)) ⌝ }
+{
+    if !whole::sound(t, z) {
+        return Answer::BadTables;
+    }
+    splits::run_on(t, z, parent, size, first, labels, goals)
+}
+
+pub fn bid(t: &[u32], z: Sizes, i: u32) -> BidAnswer
+    ensures { λ r. ⌜ Asks z (bidOf i) noBid (now (t .entry)) r ⌝ }
+{
+    if !whole::sound(t, z) {
+        return BidAnswer {
+            answer: Answer::BadTables,
+            yes: false,
+        };
+    }
+    let b = splits::may_bid(t, z, i);
+    BidAnswer {
+        answer: Answer::Done,
+        yes: b,
+    }
 }

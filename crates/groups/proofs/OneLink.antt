@@ -20,10 +20,6 @@ use Rattle.groups.specs.Ends.{pairAt, pairEnds, Goes, Over}
 use Rattle.groups.proofs.Nodes.{node-lt}
 use Rattle.groups.proofs.Forests.{goes-past, goes-join}
 
--- a live island has a number
-pub has-number : {Z : Sizes} {t : List ℕ} {i : ℕ} → Sound Z t → Lives Z t i → i ≢ none
-has-number S L = let a = L .in-use in let b = S .good .members-wf .rules .m-small in omega arith
-
 module _ {Z : Sizes} {t : List ℕ} {i : ℕ} {parent size : List ℕ} (O : Over Z t i parent size) (x : List ℕ) (j : ℕ) where
   abbrev w : World
   w = worldOf Z t
@@ -44,7 +40,7 @@ module _ {Z : Sizes} {t : List ℕ} {i : ℕ} {parent size : List ℕ} (O : Over
   module _ (a b : ℕ) (p : a ≡ node-of w i (handleAt x j)) (q : b ≡ node-of w i (handleAt x (j + 2))) (c : a ≢ none) (d : b ≢ none) where
     place-lt : (h : Handle) (k : ℕ) → k ≡ node-of w i h → k ≢ none → k < length parent
     place-lt h k e o =
-        let l = node-lt Z t i (h .slot) (h .generation) (O .sound) (has-number (O .sound) (O .lives)) (λ z. o (e ∙ z)) in
+        let l = node-lt Z t i (h .slot) (h .generation) (O .sound) (O .lives .in-use) (λ z. o (e ∙ z)) in
         let m = O .long in
         omega arith
 

@@ -1,13 +1,11 @@
 // The components of an island: a label for each of its bodies, read from the tables.
 ghost use mathlib.Core.Path.{_≡_};
-ghost use mathlib.Core.Logic.{_≢_};
 ghost use mathlib.Core.List.{[], _∷_};
-ghost use Prim.Native.Nat.{ℕ, _+_, _≤_};
+ghost use Prim.Native.Nat.{ℕ, _+_, _≤_, _<_};
 ghost use lib.ListN.{length};
-ghost use Rattle.lists.specs.Rules.{none};
 ghost use Rattle.lists.specs.Table.{pick};
 ghost use Rattle.state.specs.Split.{node-of};
-ghost use Rattle.tables.specs.Layout.{tables, tableOf, tableLong, chain-in};
+ghost use Rattle.tables.specs.Layout.{tables, extents, tableOf, tableLong, chain-in};
 ghost use Rattle.tables.specs.Decode.{worldOf};
 ghost use Rattle.tables.specs.Sound.{Sound};
 ghost use Rattle.steps.specs.Steps.{handle};
@@ -25,15 +23,11 @@ pub struct Shape {
 }
 
 // The place of a handle's body in the island i: NONE where it is no member of i.
-pub fn node_of(t: &[u32], z: Sizes, i: u32, slot: u32, generation: u32) -> u32
-    requires { ⌜ Sound z (now t) × (i ≢ none) ⌝ }
+fn node_of(t: &[u32], z: Sizes, i: u32, slot: u32, generation: u32) -> u32
+    requires { ⌜ Sound z (now t) × (i < extents (tables z (now t)) .islands) ⌝ }
     ensures { λ r. ⌜ r ≡ node-of (worldOf z (now (t .entry))) i (handle slot generation) ⌝ }
 {
-    let j = contacts::body_island(t, z, slot, generation);
-    if j != i {
-        return NONE;
-    }
-    store::get(t, z, Table::Members, 4 * (slot as usize) + 1)
+    shifts::node_at(t, z, i, slot, generation)
 }
 
 // The link whose two handles are the four words at j of the table w: where both ends are members of i, their places are joined. Says whether they were apart.

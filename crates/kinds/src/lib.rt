@@ -82,6 +82,18 @@ pub struct IslandAnswer {
     pub island: Island,
 }
 
+// The answer to "which islands may sleep": how many were listed, 0 with any other answer than Done.
+pub struct Listed {
+    pub answer: Answer,
+    pub length: u32,
+}
+
+// The answer to "may this island bid": yes only with the answer Done.
+pub struct BidAnswer {
+    pub answer: Answer,
+    pub yes: bool,
+}
+
 // The sleep scan: its stamp, whether it is open, and how many islands wait in it.
 pub struct Scan {
     pub stamp: u32,

@@ -16,12 +16,39 @@ fn run(fd: i32, name: &[u8]) {
     }
 }
 
+fn say(line: &[u8]) {
+    io::write_all(STDOUT_FILENO, line);
+}
+
 fn help() {
-    io::write_all(
-        STDOUT_FILENO,
+    say(
         b"lesson [FILE]   run the lesson script in FILE, or the one on standard input, and write its answers\n",
     );
-    io::write_all(STDOUT_FILENO, b"lesson --help   write this\n");
+    say(b"lesson --help   write this\n\n");
+    say(
+        b"A script has a call on each line; # starts a comment. A handle is its slot and its generation, S G; a flag is 0 or 1.\n",
+    );
+    say(b"  reset   dump   resolve   run   begin   finish [ROOM]\n");
+    say(
+        b"  put S G FIXED ENABLED SLEEPING   flags S G FIXED ENABLED SLEEPING   retire S G   island S G   ensure S G   remove S G\n",
+    );
+    say(b"  contact EDGE S G S G   uncontact EDGE   renumber REMOVED LAST\n");
+    say(b"  joint i INDEX GENERATION S G S G   joint c MULTIBODY ORDINAL S G S G\n");
+    say(
+        b"  unjoint i INDEX GENERATION   unjoint c MULTIBODY ORDINAL   chain MULTIBODY N S G .. S G\n",
+    );
+    say(
+        b"  split ISLAND   schedule ISLAND   maybid ISLAND   observe ISLAND ELIGIBLE   sleep ISLAND   wake ISLAND\n",
+    );
+    say(
+        b"Answers: 0 done, 1 nothing to do; refused: 2 over its size, 3 still linked, 4 joints full, 5 journal full, 6 no such island,\n",
+    );
+    say(
+        b"7 no scan open, 8 output too short, 9 tables not well formed, 10 slot taken, 11 generation not allowed.\n",
+    );
+    say(
+        b"docs/LESSON-FORMAT.md has the whole form, docs/DEMOS.md explains the lessons in demos/.\n",
+    );
 }
 
 fn main() {

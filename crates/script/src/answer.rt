@@ -3,6 +3,7 @@ use cells::word;
 use command::Command;
 use dump::dump;
 use kinds::Answer;
+use kinds::Island;
 use kinds::IslandAnswer;
 
 // What a line is answered by.
@@ -10,7 +11,6 @@ pub enum Reply {
     // Nothing, for an empty line or a comment.
     Silent,
     BadLine,
-    NotYet,
     Answer(Answer),
     Island(IslandAnswer),
     // May this island bid?
@@ -34,8 +34,8 @@ pub fn answer_line(
     write_reply(t, list, out, used, number, reply)
 }
 
-// Makes the call that a line asks for. The calls that are still to come are not made yet.
-fn call(t: &mut [u32], list: &[u32], command: Command) -> Reply {
+// Makes the call that a line asks for.
+fn call(t: &mut [u32], list: &mut [u32], command: Command) -> Reply {
     match command {
         Command::Blank => Reply::Silent,
         Command::Bad => Reply::BadLine,
@@ -53,8 +53,16 @@ fn call(t: &mut [u32], list: &[u32], command: Command) -> Reply {
         Command::Unjoint(k) => Reply::Answer(calls::unjoint(t, k)),
         Command::Chain { multibody, handles } => refresh(t, list, multibody, handles),
         Command::Resolve => Reply::Answer(calls::resolve(t)),
+        Command::Split(i) => Reply::Answer(calls::split(t, i)),
+        Command::MayBid(i) => may_bid(t, i),
+        Command::Schedule(i) => Reply::Answer(calls::schedule(t, i)),
+        Command::Run => Reply::Answer(calls::run(t)),
+        Command::Begin => Reply::Answer(calls::begin(t)),
+        Command::Observe { island, eligible } => Reply::Answer(calls::observe(t, island, eligible)),
+        Command::Finish { room } => finish_scan(t, list, room),
+        Command::Sleep(i) => Reply::Answer(calls::sleep(t, i)),
+        Command::Wake(i) => Reply::Answer(calls::wake(t, i)),
         Command::Dump => Reply::Dump,
-        _ => Reply::NotYet,
     }
 }
 
@@ -65,6 +73,25 @@ fn refresh(t: &mut [u32], list: &[u32], multibody: u64, handles: u32) -> Reply {
         return Reply::BadLine;
     }
     Reply::Answer(calls::chain(t, multibody, &list[0..n]))
+}
+
+fn may_bid(t: &[u32], island: Island) -> Reply {
+    let b = calls::bid(t, island);
+    let a = b.answer;
+    let yes = b.yes;
+    Reply::Bid(a, yes)
+}
+
+// The output that is lent is the front of the list.
+fn finish_scan(t: &mut [u32], list: &mut [u32], room: u32) -> Reply {
+    let n = room as usize;
+    if n > list.len() {
+        return Reply::BadLine;
+    }
+    let listed = calls::finish(t, &mut list[..n]);
+    let a = listed.answer;
+    let length = listed.length;
+    Reply::List(a, length)
 }
 
 fn write_reply(
@@ -78,7 +105,6 @@ fn write_reply(
     match reply {
         Reply::Silent => used,
         Reply::BadLine => write_bad_line(out, used, number),
-        Reply::NotYet => text::line(out, used, b"not yet ", number),
         Reply::Answer(a) => text::line(out, used, b"", a.number() as u64),
         Reply::Island(a) => write_island(out, used, a),
         Reply::Bid(a, bids) => write_bid(out, used, a, bids),

@@ -90,12 +90,6 @@ module _ (w : World) (s g : ℕ) where
   retire-no n = rw n
 
 module _ {Z : Sizes} {t : List ℕ} (s g i : ℕ) (n : named (worldOf Z t) (handle s g) ≡ true) (e : islandOf (worldOf Z t) s ≡ i) (d : i ≢ none) where
-  pub remove-last : {t1 t2 t3 t4 : List ℕ} → islandAt (worldOf Z t) i .bodies ≡ s ∷ [] → Steps Z (drop-contacts i) t t1 → Steps Z (drop-joints i) t1 t2 → Steps Z (leave-last i) t2 t3
-      → Steps Z (clear-pending i) t3 t4 → Does Z (remove (handle s g)) t Done t4
-  remove-last b A B C D =
-      let w = worldOf Z t in
-      does-as (λ w. done (free-island i w)) (remove (handle s g)) (sym (remove-left w s g i n e d ∙ ap done (left-last w s i b))) (removed-last i (listed w s i b) A B C D)
-
   pub remove-some : {t1 : List ℕ} → 1 < length (islandAt (worldOf Z t) i .bodies) → Steps Z (leave s i) t t1 → Does Z (remove (handle s g)) t Done t1
   unfolding leave
   remove-some h A =

@@ -35,6 +35,7 @@ use Rattle.steps.proofs.Good.{island-is, world-is, slot-rule, head-rule
 use Rattle.steps.proofs.At.{steps-none, steps-as}
 use Rattle.steps.proofs.Loose.{loose-rule, sound-loose, peopled, moves-at, moves-as, moves-none, moved-steps}
 use Rattle.steps.proofs.Names.{home-is}
+use Rattle.steps.proofs.LastOut.{map-same}
 use Rattle.steps.proofs.Put.{body-word}
 use Rattle.steps.proofs.Isle.{Aside, row-aside, row-0, row-1, row-2, Same, same-island}
 
@@ -73,10 +74,6 @@ edge-rule p x = rw p x
 
 joint-rule : {h h′ s k a b c s1 g1 s2 g2 : ℕ} → h ≡ h′ → JointRule h′ s k a b c s1 g1 s2 g2 → JointRule h s k a b c s1 g1 s2 g2
 joint-rule p x = rw p x
-
-pub map-same : {A : Type 0} (f g : ℕ → A) (l : List ℕ) → ((p : ℕ) → p < length l → f (getD l p 0) ≡ g (getD l p 0)) → map f l ≡ map g l
-map-same f g [] h = refl
-map-same f g (x ∷ l) h = rw (h 0 (omega arith), map-same f g l (λ p k. h (suc p) (omega arith)))
 
 abbrev pub with-island : Extents → Extents
 with-island X = record { slots = X .slots; islands = X .islands + 1; edges = X .edges; joints = X .joints; journal = X .journal }

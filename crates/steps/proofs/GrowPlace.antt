@@ -30,7 +30,8 @@ use Rattle.steps.specs.Linking.{place-readied, place-ready, joint-push}
 use Rattle.steps.specs.Places.{one-place, grow-place}
 use Rattle.steps.proofs.Good.{island-is, world-is, island-rule, head-rule}
 use Rattle.steps.proofs.At.{steps-at, steps-none, steps-as}
-use Rattle.steps.proofs.GrowIsland.{map-same, empty-yes, empty-no}
+use Rattle.steps.proofs.LastOut.{map-same}
+use Rattle.steps.proofs.GrowIsland.{empty-yes, empty-no}
 use Rattle.steps.proofs.PlaceWords.{eight, outside, other-link, other-rule, other-keys, word-0, word-1, word-2, word-3, word-4, word-5, word-6, word-7}
 
 abbrev with-place : Extents → Extents

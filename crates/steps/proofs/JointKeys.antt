@@ -24,6 +24,7 @@ use Rattle.steps.specs.Places.{KeyRule, HasKey, LinkedAs, KeyAt, Unlinke
 use Rattle.steps.specs.Loose.{Loose}
 use Rattle.steps.proofs.Loose.{good-loose}
 use Rattle.steps.proofs.Names.{island-at}
+use Rattle.steps.proofs.Touching.{value-at}
 
 -- ---- keys
 both : (x y : Bool) → x && y ≡ true → (x ≡ true) × (y ≡ true)
@@ -87,12 +88,6 @@ below-yes is q i (suc k) l y h =
     let e = place-no ls q (h k (omega arith) d) in
     rw (le-ltb (keyPlace ls q) (length ls) (omega arith)) (below-yes is q i k (omega arith) y (λ j jl o. h j (omega arith) o)))
 
--- an element of a list of values
-pub value-at : {A : Type 0} (g : ℕ → A) (xs : List ℕ) (d : A) (k : ℕ) → k < length xs → getD (map g xs) k d ≡ g (getD xs k 0)
-value-at g [] d k h = absurd (omega arith)
-value-at g (x ∷ xs) d zero h = refl
-value-at g (x ∷ xs) d (suc k) h = value-at g xs d k (omega arith)
-
 -- ---- the tables
 module _ (Z : Sizes) (X : Extents) (T : Tables) (G : Loose Z X T) where
   abbrev S : View
@@ -123,7 +118,7 @@ module _ (Z : Sizes) (X : Extents) (T : Tables) (G : Loose Z X T) where
         let n = length-list R i il in
         let s = size-at in
         let A = list-at R i il k (omega arith) in
-        h (getD (listOf S i) k 0) (A .lt) (A .home-is) (sym (ap (λ (x : JointLink). x .key) (value-at f (listOf S i) noJoint k (omega arith))) ∙ e))
+        h (getD (listOf S i) k 0) (A .lt) (A .home-is) (sym (ap (λ (x : JointLink). x .key) (value-at f noJoint (listOf S i) k (omega arith))) ∙ e))
 
   -- a linked place stands in its list
   module _ (p : ℕ) (pl : p < X .joints) (hn : S .home p ≢ none) where
@@ -141,7 +136,7 @@ module _ (Z : Sizes) (X : Extents) (T : Tables) (G : Loose Z X T) where
         let i = S .home p in
         let s = length-list R i il in
         let h = hp .place-lt in
-        ap (λ (ls : List JointLink). getD ls (S .place p) noJoint) (links-at i il) ∙ value-at f (listOf S i) noJoint (S .place p) (omega arith) ∙ ap f (list-of R i il p pl refl)
+        ap (λ (ls : List JointLink). getD ls (S .place p) noJoint) (links-at i il) ∙ value-at f noJoint (listOf S i) (S .place p) (omega arith) ∙ ap f (list-of R i il p pl refl)
 
   module _ (kind a b c : ℕ) (K : KeyRule kind c) where
     abbrev q : Key
@@ -187,7 +182,7 @@ module _ (Z : Sizes) (X : Extents) (T : Tables) (G : Loose Z X T) where
           (λ j jl e.
           let A = list-at R i ih j (omega arith) in
           let x = getD (listOf S i) j 0 in
-          let v : f x .key ≡ q = sym (ap (λ (ls : List JointLink). getD ls j noJoint .key) (links-at i ih) ∙ ap (λ (l : JointLink). l .key) (value-at f (listOf S i) noJoint j (omega arith))) ∙ e in
+          let v : f x .key ≡ q = sym (ap (λ (ls : List JointLink). getD ls j noJoint .key) (links-at i ih) ∙ ap (λ (l : JointLink). l .key) (value-at f noJoint (listOf S i) j (omega arith))) ∙ e in
           let d : S .home x ≢ none = (let m = R .m-small in let h = A .home-is in let o = ih in omega arith) in
           let o : S .place x ≡ S .place p = ap (S .place) (only x (A .lt) d v) in
           let r = A .place-is in

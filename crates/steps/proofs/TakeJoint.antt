@@ -30,28 +30,9 @@ use Rattle.steps.proofs.Good.{island-is, world-is}
 use Rattle.steps.proofs.Loose.{loose-rule, peopled, moves-at, moved-steps, left-taken}
 use Rattle.steps.proofs.Names.{island-at}
 use Rattle.steps.proofs.LastOut.{still}
-use Rattle.steps.proofs.JointKeys.{value-at, link-at}
+use Rattle.steps.proofs.OneContact.{map-swap}
+use Rattle.steps.proofs.JointKeys.{link-at}
 use Rattle.steps.proofs.PlaceWords.{eight, outside, other-link, other-rule, other-keys, word-0, word-1, word-2, word-3, word-4, word-5, word-6, word-7}
-
--- ---- values of a list after a swap removal
-module _ {A : Type 0} (g : ℕ → A) where
-  map-take : (n : ℕ) (xs : List ℕ) → map g (take n xs) ≡ take n (map g xs)
-  map-take zero xs = refl
-  map-take (suc n) [] = refl
-  map-take (suc n) (x ∷ xs) = ap (λ (ys : List A). g x ∷ ys) (map-take n xs)
-
-  map-set : (xs : List ℕ) (k v : ℕ) → map g (set xs k v) ≡ set (map g xs) k (g v)
-  map-set [] k v = refl
-  map-set (x ∷ xs) zero v = refl
-  map-set (x ∷ xs) (suc k) v = ap (λ (ys : List A). g x ∷ ys) (map-set xs k v)
-
-  map-swap : (xs : List ℕ) (d : A) (k : ℕ) → 0 < length xs → map g (takenOut xs k) ≡ swapRemove d (map g xs) k
-  unfolding takenOut
-  map-swap xs d k h =
-      let n = length xs in
-      let e : length (map g xs) ≡ n = length-map xs g in
-      map-take (n - 1) (set xs k (getD xs (n - 1) 0)) ∙ ap (take (n - 1)) (map-set xs k (getD xs (n - 1) 0) ∙ ap (set (map g xs) k) (sym (value-at g xs d (n - 1) (omega arith))))
-      ∙ ap (λ (m : ℕ). take (m - 1) (set (map g xs) k (getD (map g xs) (m - 1) d))) (sym e)
 
 module _ (Z : Sizes) (X : Extents) (T : Tables) (G : Loose Z X T) (K : Sized Z T) (p : ℕ) (pl : p < X .joints) (hn : joints-in Z T .home p ≢ none) where
   abbrev S : View
@@ -162,7 +143,7 @@ module _ (Z : Sizes) (X : Extents) (T : Tables) (G : Loose Z X T) (K : Sized Z T
       let s = size in
       world-is refl
       (tabulate-set (X .islands) i (islandIn Z T′) (islandIn Z T) _
-      (island-is refl refl (same i il ∙ ap (map g) (P .list-e) ∙ map-swap g (listOf S i) noJoint (S .place p) (omega arith)) refl refl refl
+      (island-is refl refl (same i il ∙ ap (map g) (P .list-e) ∙ map-swap g noJoint (listOf S i) (S .place p) (omega arith)) refl refl refl
       ∙ ap (λ (a : Island). joints-set a (swapRemove noJoint (a .joint-links) (S .place p))) (sym (island-at Z X T i il)))
       (λ j jl d. island-is refl refl (same j jl ∙ ap (map g) (P .list-o j jl d)) refl refl refl))
       refl refl refl (A .list-i ∙ ap (λ (l : JointLink). listOf (spare-in Z T) 0 ++ (l .place ∷ [])) (sym (link-at Z X T G p pl hn))) refl refl refl refl refl

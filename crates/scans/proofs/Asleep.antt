@@ -1,0 +1,89 @@
+-- A live island is marked asleep, or wakes.
+use mathlib.Core.Path.{_≡_, refl, sym, _∙_, ap, subst}
+use mathlib.Core.Logic.{_≢_}
+use mathlib.Core.Bool.{Bool, true, false, not, false≢true}
+use mathlib.Core.List.{List}
+use Prim.Native.Nat.{ℕ, _+_, _*_, _≤_, _<_}
+use native.Mathlib.Omega.{arith}
+use borrow.Author.Tests.{eq-eqb, ne-eqb}
+use lib.Dec.{eqb}
+use lib.ListN.{length, getD, set}
+use lib.Seq.{getD-set-same, getD-set-other}
+use Rattle.lists.proofs.Order.{length-list}
+use Rattle.frame.specs.Part.{Put}
+use Rattle.kinds.specs.declared.Sizes.{Sizes}
+use Rattle.kinds.specs.declared.Answer.the-variants.{Done, NoIsland}
+use Rattle.state.specs.World.{Island, noIsland, World, Step, done, islandAt, island-set, live}
+use Rattle.state.specs.Scan.{sleeping-set, mark-island-sleeping, wake-island}
+use Rattle.tables.specs.Layout.{Tables, tables, rowsAt, rowsLong, rows-put, Extents, extents, members-in}
+use Rattle.tables.specs.Decode.{bitOf, flag, islandIn, worldOf}
+use Rattle.tables.specs.Sound.{Sound}
+use Rattle.tables.specs.Does.{Does}
+use Rattle.tables.proofs.Puts.{sized}
+use Rattle.tables.proofs.Tab.{length-tabulate, getD-beyond}
+use Rattle.steps.specs.Steps.{Steps, clear-pending}
+use Rattle.steps.specs.Lives.{Lives}
+use Rattle.steps.proofs.Then.{refused, does-as, does-then}
+use Rattle.steps.proofs.Good.{island-is}
+use Rattle.steps.proofs.Names.{island-at}
+use Rattle.steps.proofs.Isle.{Aside, set-aside}
+use Rattle.steps.proofs.Row.{row-steps}
+use Rattle.scans.specs.Scanning.{rest-as, LiveIs}
+use Rattle.scans.proofs.Lists.{flag-bit, bit-le}
+
+-- ---- is_live
+module _ {Z : Sizes} {t : List ℕ} (i : ℕ) (S : Sound Z t) where
+  pub live-far : extents (tables Z t) .islands ≤ i → LiveIs Z t i false
+  unfolding live worldOf
+  live-far l =
+      record {
+        says =
+            sym
+            (ap (λ (a : Island). not (eqb (length (a .bodies)) 0))
+            (getD-beyond (worldOf Z t .islands) noIsland i (rw (length-tabulate (extents (tables Z t) .islands) (islandIn Z (tables Z t))) l)));
+        lives = λ e. absurd (false≢true e);
+      }
+
+  bodies-are : i < extents (tables Z t) .islands → length (islandAt (worldOf Z t) i .bodies) ≡ members-in Z (tables Z t) .count i
+  unfolding worldOf
+  bodies-are l = ap (λ (a : Island). length (a .bodies)) (island-at Z (extents (tables Z t)) (tables Z t) i l) ∙ length-list (S .good .members-wf .rules) i l
+
+  pub live-empty : i < extents (tables Z t) .islands → members-in Z (tables Z t) .count i ≡ 0 → LiveIs Z t i false
+  unfolding live
+  live-empty l c = record { says = sym (ap not (eq-eqb _ 0 (bodies-are l ∙ c))); lives = λ e. absurd (false≢true e) }
+
+  pub live-some : i < extents (tables Z t) .islands → members-in Z (tables Z t) .count i ≢ 0 → LiveIs Z t i true
+  unfolding live
+  live-some l c = record { says = sym (ap not (ne-eqb _ 0 (λ e. c (sym (bodies-are l) ∙ e)))); lives = λ e. record { in-use = l; some = c } }
+
+-- ---- rest
+pub rested : {Z : Sizes} {t t1 : List ℕ} (i : ℕ) (z : Bool) → Sound Z t → Lives Z t i → Put (rowsAt Z) (rowsLong Z) t t1 (set (tables Z t .rows) (3 * i + 2) (bitOf z)) → Steps Z (rest-as i z) t t1
+unfolding rest-as
+rested {Z} {t} {t1} i z S L P =
+    let T = tables Z t in
+    let x = T .rows in
+    let v = bitOf z in
+    let lx : 3 * i + 2 < length x = (let k = sized Z t (S .long) .rows-length in let g = S .good .islands-le in let l = L .in-use in omega arith) in
+    let s : getD (set x (3 * i + 2) v) (3 * i + 2) 0 ≡ v = getD-set-same x (3 * i + 2) v 0 lx in
+    row-steps i (set x (3 * i + 2) v) (λ a. sleeping-set a z) S (L .in-use) (L .some) (set-aside x i (3 * i + 2) v (omega arith) (omega arith)) (rw s (bit-le z))
+    (island-is refl refl refl (getD-set-other x (3 * i + 2) (3 * i) v 0 (omega arith)) (getD-set-other x (3 * i + 2) (3 * i + 1) v 0 (omega arith)) (ap flag s ∙ flag-bit z))
+    P
+
+-- ---- sleep_on, wake_on
+module _ {Z : Sizes} {t : List ℕ} (i : ℕ) (S : Sound Z t) where
+  pub sleep-dead : live (worldOf Z t) i ≡ false → Does Z (mark-island-sleeping i) t NoIsland t
+  unfolding mark-island-sleeping
+  sleep-dead d = refused (mark-island-sleeping i) NoIsland S (rw d)
+
+  pub wake-dead : live (worldOf Z t) i ≡ false → Does Z (wake-island i) t NoIsland t
+  unfolding wake-island
+  wake-dead d = refused (wake-island i) NoIsland S (rw d)
+
+  pub slept : {t1 t2 : List ℕ} → live (worldOf Z t) i ≡ true → Steps Z (rest-as i true) t t1 → Steps Z (clear-pending i) t1 t2 → Does Z (mark-island-sleeping i) t Done t2
+  unfolding mark-island-sleeping rest-as clear-pending
+  slept d A B =
+      does-as (λ w. clear-pending i (rest-as i true w .after)) (mark-island-sleeping i) (rw d) (does-then (rest-as i true) (clear-pending i) (B .larger) (A .does) (B .does))
+
+  pub woken : {t1 : List ℕ} → live (worldOf Z t) i ≡ true → Steps Z (rest-as i false) t t1 → Does Z (wake-island i) t Done t1
+  unfolding wake-island rest-as
+  woken d A = does-as (rest-as i false) (wake-island i) (rw d) (A .does)

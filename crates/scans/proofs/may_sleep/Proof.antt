@@ -1,0 +1,162 @@
+use native.Mathlib.Omega.{arith}
+use mathlib.Core.Path.{_≡_, refl, sym, _∙_, ap, subst}
+use denote.Ref.{now}
+use Rattle.scans.proofs.Restful.{may-unfit, may-dead, may-asleep, may-whole, may-many, may-one}
+use borrow.Author.Needs.{needs}
+use Rattle.scans.proofs.may_sleep.Statement.{statement}
+use Rattle.scans.proofs.may_sleep.Tie as tie
+use Rattle.scans.proofs.may_sleep.Reads as reads
+use Rattle.scans.proofs.may_sleep.Lts as lts
+use Rattle.store.proofs.count.Reads as count-reads
+use Rattle.store.proofs.get.Reads as get-reads
+
+get-requires : tie.Need-get-requires
+get-requires c κs = search needs
+
+returns : tie.Need-returns
+returns c =
+    let t-if1 = c .if1 in
+    let c1 = c .before in
+    let t-get = c1 .get in
+    let c3 = c1 .before .before in
+    let t-args = c3 .args in
+    let t-pre = c3 .pre in
+    may-unfit (t-args .i) (t-pre .0) (t-pre .1) (λ e. t-if1 .taken (t-get .ensures .0 ∙ e))
+
+count-requires : tie.Need-count-requires
+count-requires c κs = search needs
+
+returns-2 : tie.Need-returns-2
+returns-2 c =
+    let t-if2 = c .if2 in
+    let c1 = c .before in
+    let t-count = c1 .count in
+    let c2 = c1 .before in
+    let t-if1 = c2 .if1 in
+    let c3 = c2 .before in
+    let t-get = c3 .get in
+    let c5 = c3 .before .before in
+    let t-args = c5 .args in
+    let t-pre = c5 .pre in
+    may-dead (t-args .i) (t-pre .0) (t-pre .1) (sym (t-get .ensures .0) ∙ t-if1 .left) (sym (t-count .ensures .0) ∙ t-if2 .taken)
+
+mul-get : tie.Need-mul-get
+mul-get c = search needs
+
+add-get : tie.Need-add-get
+add-get c = search needs
+
+get-requires-2 : tie.Need-get-requires-2
+get-requires-2 c κs = search needs
+
+returns-3 : tie.Need-returns-3
+returns-3 c =
+    let t-if3 = c .if3 in
+    let c1 = c .before in
+    let t-get2 = c1 .get2 in
+    let c2 = c1 .before in
+    let t-if2 = c2 .if2 in
+    let c3 = c2 .before in
+    let t-count = c3 .count in
+    let c4 = c3 .before in
+    let t-if1 = c4 .if1 in
+    let c5 = c4 .before in
+    let t-get = c5 .get in
+    let c7 = c5 .before .before in
+    let t-args = c7 .args in
+    let t-pre = c7 .pre in
+    may-asleep (t-args .i) (t-pre .0) (t-pre .1) (sym (t-get .ensures .0) ∙ t-if1 .left) (λ e. t-if2 .left (t-count .ensures .0 ∙ e)) (sym (t-get2 .ensures .0) ∙ t-if3 .taken)
+
+mul-get-2 : tie.Need-mul-get-2
+mul-get-2 c = search needs
+
+get-requires-3 : tie.Need-get-requires-3
+get-requires-3 c κs = search needs
+
+returns-4 : tie.Need-returns-4
+returns-4 c =
+    let t-if4 = c .if4 in
+    let c1 = c .before in
+    let t-get3 = c1 .get3 in
+    let c2 = c1 .before in
+    let t-if3 = c2 .if3 in
+    let c3 = c2 .before in
+    let t-get2 = c3 .get2 in
+    let c4 = c3 .before in
+    let t-if2 = c4 .if2 in
+    let c5 = c4 .before in
+    let t-count = c5 .count in
+    let c6 = c5 .before in
+    let t-if1 = c6 .if1 in
+    let c7 = c6 .before in
+    let t-get = c7 .get in
+    let c9 = c7 .before .before in
+    let t-args = c9 .args in
+    let t-pre = c9 .pre in
+    may-whole (t-args .i) (t-pre .0) (t-pre .1) (sym (t-get .ensures .0) ∙ t-if1 .left) (λ e. t-if2 .left (t-count .ensures .0 ∙ e)) (λ e. t-if3 .left (t-get2 .ensures .0 ∙ e)) (sym (t-get3 .ensures .0) ∙ t-if4 .taken)
+
+returns-5 : tie.Need-returns-5
+returns-5 c =
+    let t-if5 = c .if5 in
+    let c1 = c .before in
+    let t-if4 = c1 .if4 in
+    let c2 = c1 .before in
+    let t-get3 = c2 .get3 in
+    let c3 = c2 .before in
+    let t-if3 = c3 .if3 in
+    let c4 = c3 .before in
+    let t-get2 = c4 .get2 in
+    let c5 = c4 .before in
+    let t-if2 = c5 .if2 in
+    let c6 = c5 .before in
+    let t-count = c6 .count in
+    let c7 = c6 .before in
+    let t-if1 = c7 .if1 in
+    let c8 = c7 .before in
+    let t-get = c8 .get in
+    let c10 = c8 .before .before in
+    let t-args = c10 .args in
+    let t-pre = c10 .pre in
+    may-many (t-args .i) (t-pre .0) (t-pre .1) (sym (t-get .ensures .0) ∙ t-if1 .left) (λ e. t-if2 .left (t-count .ensures .0 ∙ e)) (λ e. t-if3 .left (t-get2 .ensures .0 ∙ e)) (λ e. t-if4 .left (t-get3 .ensures .0 ∙ e)) (let e = t-count .ensures .0 in omega (arith, t-if5 .taken))
+
+returns-6 : tie.Need-returns-6
+returns-6 c =
+    let t-if5 = c .if5 in
+    let c1 = c .before in
+    let t-if4 = c1 .if4 in
+    let c2 = c1 .before in
+    let t-get3 = c2 .get3 in
+    let c3 = c2 .before in
+    let t-if3 = c3 .if3 in
+    let c4 = c3 .before in
+    let t-get2 = c4 .get2 in
+    let c5 = c4 .before in
+    let t-if2 = c5 .if2 in
+    let c6 = c5 .before in
+    let t-count = c6 .count in
+    let c7 = c6 .before in
+    let t-if1 = c7 .if1 in
+    let c8 = c7 .before in
+    let t-get = c8 .get in
+    let c10 = c8 .before .before in
+    let t-args = c10 .args in
+    let t-pre = c10 .pre in
+    may-one (t-args .i) (t-pre .0) (t-pre .1) (sym (t-get .ensures .0) ∙ t-if1 .left) (λ e. t-if2 .left (t-count .ensures .0 ∙ e)) (λ e. t-if3 .left (t-get2 .ensures .0 ∙ e)) (λ e. t-if4 .left (t-get3 .ensures .0 ∙ e)) (let e = t-count .ensures .0 in omega (arith, t-if5 .left))
+
+pub may-sleep-spec : {M : Type 1} → statement M
+may-sleep-spec =
+    tie.close
+    (tie.spec
+    get-requires
+    returns
+    count-requires
+    returns-2
+    mul-get
+    add-get
+    get-requires-2
+    returns-3
+    mul-get-2
+    get-requires-3
+    returns-4
+    returns-5
+    returns-6)

@@ -1,0 +1,25 @@
+-- Laws of histories.
+pub mod Change
+pub mod Keep
+pub mod Near
+pub mod Record
+pub mod Basic
+pub mod Enter
+pub mod Quit
+pub mod Keys
+pub mod Fuse
+pub mod Link
+pub mod Unlink
+pub mod Halve
+pub mod Resolve
+pub mod Renumber
+pub mod All
+pub mod Sentences
+pub mod SampleJ
+pub mod Neighbours
+pub mod Mild
+pub mod Turns
+pub mod Oren
+pub mod Dana
+pub mod Limits
+pub mod Written

@@ -1,0 +1,143 @@
+-- Ties: the links that were recorded while both ends were members, up to when they are unlinked or an end leaves.
+-- And the links that are recorded at all, with one member end or two.
+use mathlib.Core.Path.{_≡_}
+use mathlib.Core.Logic.{_⊎_, _≢_}
+use mathlib.Core.Bool.{Bool}
+use mathlib.Core.List.{List, [], _∷_, _++_}
+use Prim.Native.Nat.{ℕ, zero, suc, _+_}
+use lib.Dec.{eqb}
+use Rattle.lists.specs.Table.{pick}
+use Rattle.kinds.specs.Number.{number}
+use Rattle.kinds.specs.declared.Sizes.{Sizes}
+use Rattle.state.specs.Plain.{top}
+use Rattle.state.specs.World.{Handle, chain, World, Step, body-island}
+use Rattle.state.specs.Chain.{chained, oldLength}
+use Rattle.state.specs.Calls.{Call, Reset, Put, Retire, Flags, Ensure, Remove, Contact, Uncontact, Renumber, Joint, Unjoint, Chain, Resolve, Split, Schedule, Run, Begin, Observe, Finish, Sleep, Wake, perform}
+use Rattle.tables.specs.Decode.{worldOf}
+use Rattle.worlds.specs.Graph.{Name, edge, joint, Bond, Stands}
+use Rattle.histories.specs.History.{History, reset, call}
+
+-- what an accepted call says of the recorded links
+pub data Event : Type 0 where
+  nothing : Event
+  made : (l : Bond) → Event
+  unlinked : (n : Name) → Event
+  renumbered : (removed last : ℕ) → Event
+  -- links can be dropped: with an emptied island, or by a split
+  dropping : Event
+  wiped : Event
+
+abbrev pub eventOf : Call → Event
+eventOf Reset = wiped
+eventOf (Put h f e z) = nothing
+eventOf (Retire h) = dropping
+eventOf (Flags h f e z) = nothing
+eventOf (Ensure h) = nothing
+eventOf (Remove h) = dropping
+eventOf (Contact e h1 h2) = made (record { name = edge e; body1 = h1; body2 = h2 })
+eventOf (Uncontact e) = unlinked (edge e)
+eventOf (Renumber removed last) = renumbered removed last
+eventOf (Joint q h1 h2) = made (record { name = joint q; body1 = h1; body2 = h2 })
+eventOf (Unjoint q) = unlinked (joint q)
+eventOf (Chain high low hs) = nothing
+eventOf Resolve = nothing
+eventOf (Split i) = dropping
+eventOf (Schedule i) = nothing
+eventOf Run = dropping
+eventOf Begin = nothing
+eventOf (Observe i e) = nothing
+eventOf (Finish room) = nothing
+eventOf (Sleep i) = nothing
+eventOf (Wake i) = nothing
+
+-- the answer is 0
+abbrev pub isDone : Step → Bool
+isDone s = eqb (number (s .answer)) 0
+
+abbrev pub event : Sizes → Call → World → Event
+event Z c w = pick (isDone (perform Z c w)) (eventOf c) nothing
+
+-- the last edge takes the removed number
+abbrev pub newName : ℕ → ℕ → Name → Name
+newName removed last (edge e) = pick (eqb e last) (edge removed) (edge e)
+newName removed last (joint q) = joint q
+
+abbrev pub newBond : ℕ → ℕ → Bond → Bond
+newBond removed last l = record { name = newName removed last (l .name); body1 = l .body1; body2 = l .body2 }
+
+-- both ends are members
+abbrev pub Both : World → Bond → Type 0
+Both w l = (body-island w (l .body1) ≢ top) × (body-island w (l .body2) ≢ top)
+
+-- the ties after an event, where T are those before, and w and v the states before and after
+abbrev pub tied : Event → World → World → (Bond → Type 0) → Bond → Type 0
+tied nothing w v T l = T l × Both v l
+tied (made k) w v T l = (T l × Both v l) ⊎ ((l ≡ k) × Both w l)
+tied (unlinked n) w v T l = T l × (l .name ≢ n) × Both v l
+tied (renumbered removed last) w v T l = (k : Bond) × T k × (l ≡ newBond removed last k) × Both v l
+tied dropping w v T l = T l × Both v l
+tied wiped w v T l = ⊥
+
+-- the links recorded after an event, where R are those before, and v is the state after: a link that is dropped counts as unlinked
+abbrev pub recorded : Event → World → (Bond → Type 0) → Bond → Type 0
+recorded nothing v R l = R l
+recorded (made k) v R l = R l ⊎ (l ≡ k)
+recorded (unlinked n) v R l = R l × (l .name ≢ n)
+recorded (renumbered removed last) v R l = (k : Bond) × R k × (l ≡ newBond removed last k)
+recorded dropping v R l = R l × ((j : ℕ) × Stands v j l)
+recorded wiped v R l = ⊥
+
+-- a chain refresh is its unlinks, then its links, where it is accepted
+abbrev pub unlinks : ℕ → ℕ → ℕ → ℕ → List Call
+unlinks high low o zero = []
+unlinks high low o (suc k) = Unjoint (chain high low o) ∷ unlinks high low (o + 1) k
+
+abbrev pub links : ℕ → ℕ → ℕ → Handle → List Handle → List Call
+links high low o prev [] = []
+links high low o prev (h ∷ hs) = Joint (chain high low o) prev h ∷ links high low (o + 1) h hs
+
+abbrev pub linksAll : ℕ → ℕ → List Handle → List Call
+linksAll high low [] = []
+linksAll high low (h ∷ hs) = links high low 0 h hs
+
+abbrev pub parts : Sizes → Call → World → List Call
+parts Z Reset w = Reset ∷ []
+parts Z (Put h f e z) w = Put h f e z ∷ []
+parts Z (Retire h) w = Retire h ∷ []
+parts Z (Flags h f e z) w = Flags h f e z ∷ []
+parts Z (Ensure h) w = Ensure h ∷ []
+parts Z (Remove h) w = Remove h ∷ []
+parts Z (Contact e h1 h2) w = Contact e h1 h2 ∷ []
+parts Z (Uncontact e) w = Uncontact e ∷ []
+parts Z (Renumber removed last) w = Renumber removed last ∷ []
+parts Z (Joint q h1 h2) w = Joint q h1 h2 ∷ []
+parts Z (Unjoint q) w = Unjoint q ∷ []
+parts Z (Chain high low hs) w =
+    pick (isDone (perform Z (Chain high low hs) w)) (unlinks high low 0 (oldLength Z w high low) ++ linksAll high low (chained w hs)) []
+parts Z Resolve w = Resolve ∷ []
+parts Z (Split i) w = Split i ∷ []
+parts Z (Schedule i) w = Schedule i ∷ []
+parts Z Run w = Run ∷ []
+parts Z Begin w = Begin ∷ []
+parts Z (Observe i e) w = Observe i e ∷ []
+parts Z (Finish room) w = Finish room ∷ []
+parts Z (Sleep i) w = Sleep i ∷ []
+parts Z (Wake i) w = Wake i ∷ []
+
+abbrev pub tiedAll : Sizes → List Call → World → (Bond → Type 0) → Bond → Type 0
+tiedAll Z [] w T l = T l
+tiedAll Z (c ∷ cs) w T l = tiedAll Z cs (perform Z c w .after) (tied (event Z c w) w (perform Z c w .after) T) l
+
+abbrev pub recordedAll : Sizes → List Call → World → (Bond → Type 0) → Bond → Type 0
+recordedAll Z [] w R l = R l
+recordedAll Z (c ∷ cs) w R l = recordedAll Z cs (perform Z c w .after) (recorded (event Z c w) (perform Z c w .after) R) l
+
+-- the link l is a tie after the history
+abbrev pub Tie : {Z : Sizes} {t : List ℕ} → History Z t → Bond → Type 0
+Tie (reset e) l = ⊥
+Tie {Z} (call {t} H c r d) l = tiedAll Z (parts Z c (worldOf Z t)) (worldOf Z t) (Tie H) l
+
+-- the link l is recorded, and not yet unlinked, after the history
+abbrev pub Recorded : {Z : Sizes} {t : List ℕ} → History Z t → Bond → Type 0
+Recorded (reset e) l = ⊥
+Recorded {Z} (call {t} H c r d) l = recordedAll Z (parts Z c (worldOf Z t)) (worldOf Z t) (Recorded H) l

@@ -156,15 +156,6 @@ pub fn take_joint(t: &mut [u32], z: Sizes, p: u32)
     store::push(t, z, Table::Spare, 0, p);
 }
 
-// One more entry of the journal, the entry l.
-fn push_entry(t: &mut [u32], z: Sizes, l: u32, s1: u32, g1: u32, s2: u32, g2: u32)
-    requires { ⌜ Sound z (now t) × (l ≡ extents (tables z (now t)) .journal) × (l < z .journal) × (l < none) ⌝ }
-    ensures { λ _. ⌜ Steps z (journalled (handle s1 g1) (handle s2 g2)) (now (t .entry)) (now (t .exit)) ⌝ }
-{
-    store::set4(t, z, Table::Journal, 4 * (l as usize), s1, g1, s2, g2);
-    store::set(t, z, Table::Head, 4, l + 1);
-}
-
 // Does the link at the place p lead from a body to itself?
 fn same_ends(t: &[u32], z: Sizes, p: u32) -> bool
     requires { ⌜ (length (now t) ≡ total z) × (p < z .joints) ⌝ }
@@ -205,6 +196,6 @@ pub fn unlink_joint_on(t: &mut [u32], z: Sizes, kind: u32, a: u32, b: u32, c: u3
     let s2 = store::get(t, z, Table::Keys, j);
     let g2 = store::get(t, z, Table::Keys, j + 1);
     take_joint(t, z, p);
-    push_entry(t, z, l, s1, g1, s2, g2);
+    contacts::push_entry(t, z, s1, g1, s2, g2);
     Answer::Done
 }

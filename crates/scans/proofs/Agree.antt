@@ -1,8 +1,8 @@
 -- Two programs that finish agree on the answer, the length, every word of the tables and of the output; a refusal changes nothing.
 use mathlib.Core.Path.{_≡_, refl, sym, _∙_, ap, subst}
-use mathlib.Core.Logic.{_⊎_, inl, inr}
-use mathlib.Core.Bool.{Bool, true, false, not}
-use mathlib.Core.List.{List, [], _∷_, _++_}
+use mathlib.Core.Logic.{inl, inr}
+use mathlib.Core.Bool.{Bool, true, false}
+use mathlib.Core.List.{List, [], _++_}
 use Prim.Native.Nat.{ℕ, _<_}
 use native.Mathlib.Omega.{arith}
 use lib.ListN.{length, drop}
@@ -15,11 +15,11 @@ use Rattle.state.specs.Scan.{sleepables, Listing, finish-sleep-scan}
 use Rattle.state.specs.Calls.{finished, perform}
 use Rattle.state.specs.Calls.{Finish as FinishCall}
 use Rattle.tables.specs.Decode.{worldOf}
-use Rattle.tables.specs.Does.{Does, Call}
+use Rattle.tables.specs.Does.{Call}
 use Rattle.tables.proofs.Unique.{call-agree}
 use Rattle.tables.proofs.Careful.{Careful, refusal-keeps, perform-careful}
 use Rattle.scans.proofs.Finish.{finishAs, finish-is}
-use Rattle.scans.specs.Listing.{listedOf, Finishes, FinishRefuses, Finish}
+use Rattle.scans.specs.Listing.{listedOf, Finish}
 
 -- what it is that they agree
 pub record Agree (r r′ : Answer) (n n′ : ℕ) (u u′ out out′ : List ℕ) : Type 0 where

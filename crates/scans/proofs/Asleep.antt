@@ -1,5 +1,5 @@
 -- A live island is marked asleep, or wakes.
-use mathlib.Core.Path.{_≡_, refl, sym, _∙_, ap, subst}
+use mathlib.Core.Path.{_≡_, refl, sym, _∙_, ap}
 use mathlib.Core.Logic.{_≢_}
 use mathlib.Core.Bool.{Bool, true, false, not, false≢true}
 use mathlib.Core.List.{List}
@@ -13,9 +13,9 @@ use Rattle.lists.proofs.Order.{length-list}
 use Rattle.frame.specs.Part.{Put}
 use Rattle.kinds.specs.declared.Sizes.{Sizes}
 use Rattle.kinds.specs.declared.Answer.the-variants.{Done, NoIsland}
-use Rattle.state.specs.World.{Island, noIsland, World, Step, done, islandAt, island-set, live}
+use Rattle.state.specs.World.{Island, noIsland, islandAt, live}
 use Rattle.state.specs.Scan.{sleeping-set, mark-island-sleeping, wake-island}
-use Rattle.tables.specs.Layout.{Tables, tables, rowsAt, rowsLong, rows-put, Extents, extents, members-in}
+use Rattle.tables.specs.Layout.{tables, rowsAt, rowsLong, extents, members-in}
 use Rattle.tables.specs.Decode.{bitOf, flag, islandIn, worldOf}
 use Rattle.tables.specs.Sound.{Sound}
 use Rattle.tables.specs.Does.{Does}
@@ -26,7 +26,7 @@ use Rattle.steps.specs.Lives.{Lives}
 use Rattle.steps.proofs.Then.{refused, does-as, does-then}
 use Rattle.steps.proofs.Good.{island-is}
 use Rattle.steps.proofs.Names.{island-at}
-use Rattle.steps.proofs.Isle.{Aside, set-aside}
+use Rattle.steps.proofs.Isle.{set-aside}
 use Rattle.steps.proofs.Row.{row-steps}
 use Rattle.scans.specs.Scanning.{rest-as, LiveIs}
 use Rattle.scans.proofs.Lists.{flag-bit, bit-le}

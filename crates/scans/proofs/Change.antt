@@ -1,12 +1,12 @@
 -- The scan's list and its words change, and nothing else.
-use mathlib.Core.Path.{_≡_, refl, sym, _∙_, ap}
+use mathlib.Core.Path.{_≡_, refl}
 use mathlib.Core.List.{List, map}
 use Prim.Native.Nat.{ℕ, _*_, _<_}
 use lib.ListN.{length, getD}
 use Rattle.lists.specs.Rules.{View, listOf}
 use Rattle.lists.specs.Table.{view, Wf}
 use Rattle.kinds.specs.declared.Sizes.{Sizes}
-use Rattle.state.specs.World.{Observed, World, done, scan-set}
+use Rattle.state.specs.World.{Observed, done, scan-set}
 use Rattle.tables.specs.Layout.{Tables, tables, total, scan-put, fit-put, Extents, extents, scan-in}
 use Rattle.tables.specs.Decode.{observedAt, decode}
 use Rattle.tables.specs.Rule.{ScanRule, HeadRule}

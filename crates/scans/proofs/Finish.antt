@@ -1,25 +1,21 @@
 -- finish: no scan open, an output that is too short, the list.
 use mathlib.Core.Path.{_≡_, refl, sym, _∙_, ap, subst}
-use mathlib.Core.Logic.{_≢_}
 use mathlib.Core.Bool.{Bool, true, false, not}
-use mathlib.Core.List.{List, [], _∷_, _++_}
-use Prim.Native.Nat.{ℕ, _+_, _≤_, _<_}
-use native.Mathlib.Omega.{arith}
+use mathlib.Core.List.{List, [], _++_}
+use Prim.Native.Nat.{ℕ, _≤_, _<_}
 use borrow.Author.Tests.{lt-ltb, le-ltb}
 use lib.Dec.{ltb}
-use lib.ListN.{length, getD, drop}
+use lib.ListN.{length, drop}
 use Rattle.lists.specs.Table.{pick}
 use Rattle.kinds.specs.declared.Sizes.{Sizes}
 use Rattle.kinds.specs.declared.Scan.{Scan}
 use Rattle.kinds.specs.declared.Answer.{Answer}
 use Rattle.kinds.specs.declared.Answer.the-variants.{Done, NoScan, TooShort}
-use Rattle.state.specs.World.{World, Step, done, refuse, scan-set}
+use Rattle.state.specs.World.{World, done, refuse, scan-set}
 use Rattle.state.specs.Scan.{sleepables, Listing, finish-sleep-scan}
 use Rattle.state.specs.Calls.{finished}
-use Rattle.tables.specs.Layout.{tables, scan-in}
-use Rattle.tables.specs.Decode.{flag, worldOf}
+use Rattle.tables.specs.Decode.{worldOf}
 use Rattle.tables.specs.Sound.{Sound}
-use Rattle.tables.specs.Does.{Does}
 use Rattle.steps.specs.Steps.{Steps}
 use Rattle.steps.proofs.Then.{refused, does-as, does-then}
 use Rattle.scans.specs.Scanning.{forget, stamped, ScanIs, Fitting, Forgotten, restful}

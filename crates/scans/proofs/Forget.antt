@@ -1,12 +1,11 @@
 -- The last observed island is forgotten, and its word is 0; then all of them.
 use mathlib.Core.Path.{_≡_, refl, sym, _∙_, ap, subst}
-use mathlib.Core.Logic.{_⊎_, inl, inr, _≢_, ⊎-elim}
+use mathlib.Core.Logic.{inl, inr, _≢_, ⊎-elim}
 use mathlib.Core.List.{List, []}
-use Prim.Native.Nat.{ℕ, _+_, _-_, _*_, _≤_, _<_}
+use Prim.Native.Nat.{ℕ, _+_, _*_, _<_}
 use native.Mathlib.Omega.{arith}
-use lib.ListN.{length, getD, set}
+use lib.ListN.{getD, set}
 use lib.Seq.{getD-set-same, getD-set-other}
-use Rattle.lists.specs.Rules.{none, listOf}
 use Rattle.lists.specs.Table.{view, removed}
 use Rattle.lists.proofs.Laws.{either}
 use Rattle.frame.specs.Part.{Put}
@@ -14,15 +13,13 @@ use Rattle.kinds.specs.declared.Sizes.{Sizes}
 use Rattle.kinds.specs.declared.Answer.the-variants.{Done}
 use Rattle.state.specs.Plain.{dropLast}
 use Rattle.state.specs.World.{Observed, World, done, scan-set}
-use Rattle.tables.specs.Layout.{Tables, tables, scanAt, scanLong, fitAt, fitLong, scan-put, fit-put, Extents, extents, scan-in}
-use Rattle.tables.specs.Decode.{observedAt, decode, worldOf}
-use Rattle.tables.specs.Rule.{ScanRule, HeadRule}
+use Rattle.tables.specs.Layout.{Tables, tables, scanAt, scanLong, fitAt, fitLong, fit-put, Extents, extents, scan-in}
+use Rattle.tables.specs.Decode.{observedAt, worldOf}
+use Rattle.tables.specs.Rule.{HeadRule}
 use Rattle.tables.specs.Sound.{Sound}
 use Rattle.tables.proofs.Puts.{sized, put-scan, put-fit}
 use Rattle.tables.proofs.Frame.{larger-refl, larger-then}
-use Rattle.steps.specs.Steps.{Steps}
 use Rattle.steps.proofs.Then.{refused, does-as, does-then}
-use Rattle.steps.proofs.At.{steps-as}
 use Rattle.steps.proofs.LastOut.{Popped, LastIn, last-in, popped, drop-snoc, values-i, no-values}
 use Rattle.scans.specs.Scanning.{forget-last, forget, Forgot, Forgotten}
 use Rattle.scans.proofs.Change.{Change, change-steps}

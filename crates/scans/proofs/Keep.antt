@@ -1,22 +1,21 @@
 -- The scan's stamp and whether it is open are written; begin.
-use mathlib.Core.Path.{_≡_, refl, sym, _∙_, ap, subst}
-use mathlib.Core.Logic.{_⊎_, inl, inr, _≢_}
+use mathlib.Core.Path.{_≡_, refl, sym, _∙_, ap}
+use mathlib.Core.Logic.{_⊎_, inl, inr}
 use mathlib.Core.Bool.{Bool, true, false}
 use mathlib.Core.List.{List, [], _∷_}
-use Prim.Native.Nat.{ℕ, _+_, _*_, _%_, _<_}
+use Prim.Native.Nat.{ℕ, _+_, _%_, _<_}
 use native.Mathlib.Omega.{arith}
-use lib.ListN.{length, getD}
+use lib.ListN.{getD}
 use Rattle.lists.specs.Word.{writes, miss, hit}
 use Rattle.frame.specs.Part.{Put}
 use Rattle.kinds.specs.declared.Sizes.{Sizes}
 use Rattle.kinds.specs.declared.Scan.{Scan}
 use Rattle.kinds.specs.declared.Answer.the-variants.{Done}
-use Rattle.state.specs.World.{World, Step, done, scan-set}
+use Rattle.state.specs.World.{World, done, scan-set}
 use Rattle.state.specs.Scan.{begin-sleep-scan}
 use Rattle.tables.specs.Layout.{Tables, tables, headAt, headLong, head-put, Extents, extents, scan-in}
 use Rattle.tables.specs.Decode.{bitOf, flag, decode, worldOf}
-use Rattle.tables.specs.Rule.{HeadRule}
-use Rattle.tables.specs.Sound.{Good, Sound}
+use Rattle.tables.specs.Sound.{Good}
 use Rattle.tables.specs.Does.{Does}
 use Rattle.tables.proofs.Puts.{Sized, sized, put-head}
 use Rattle.tables.proofs.Frame.{larger-refl, kept-head, extents-is}

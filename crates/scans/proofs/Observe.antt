@@ -1,15 +1,15 @@
 -- An island is observed: for the first time, or again.
 use mathlib.Core.Path.{_≡_, refl, sym, _∙_, ap, subst}
-use mathlib.Core.Logic.{_⊎_, inl, inr, _≢_, ⊎-elim}
+use mathlib.Core.Logic.{inr, _≢_}
 use mathlib.Core.Bool.{Bool, true, false, _&&_}
 use mathlib.Core.List.{List, [], _∷_, _++_, map, map-append}
-use Prim.Native.Nat.{ℕ, _+_, _-_, _*_, _≤_, _<_}
+use Prim.Native.Nat.{ℕ, _+_, _*_, _<_}
 use native.Mathlib.Omega.{arith}
 use borrow.Author.Tests.{eq-eqb, ne-eqb}
 use lib.ListN.{length, getD, set}
 use lib.Seq.{getD-set-same, getD-set-other}
-use Rattle.lists.specs.Rules.{none, View, Rules, listOf}
-use Rattle.lists.specs.Table.{view, pick, pushed, PushReady}
+use Rattle.lists.specs.Rules.{none, Rules, listOf}
+use Rattle.lists.specs.Table.{view, pushed, PushReady}
 use Rattle.lists.proofs.Laws.{either, held}
 use Rattle.lists.proofs.Order.{length-list, list-at, list-of}
 use Rattle.lists.proofs.Pigeon.{count-lt}
@@ -17,20 +17,18 @@ use Rattle.frame.specs.Part.{Put}
 use Rattle.kinds.specs.declared.Sizes.{Sizes}
 use Rattle.kinds.specs.declared.Scan.{Scan}
 use Rattle.kinds.specs.declared.Answer.the-variants.{Done, NoIsland, NoScan}
-use Rattle.state.specs.World.{Observed, World, Step, done, refuse, scan-set, live}
+use Rattle.state.specs.World.{Observed, done, scan-set, live}
 use Rattle.state.specs.Scan.{observed, observe-body-for-sleep}
 use Rattle.tables.specs.Layout.{Tables, tables, scanAt, scanLong, fitAt, fitLong, scan-put, fit-put, Extents, extents, scan-in}
 use Rattle.tables.specs.Decode.{bitOf, flag, observedAt, worldOf}
-use Rattle.tables.specs.Rule.{ScanRule, HeadRule}
 use Rattle.tables.specs.Sound.{Sound}
 use Rattle.tables.specs.Does.{Does}
 use Rattle.tables.proofs.Puts.{sized, put-scan, put-fit}
 use Rattle.tables.proofs.Chains.{Added, added, push-ready, chain-refl}
 use Rattle.tables.proofs.Frame.{larger-then}
-use Rattle.tables.proofs.Unique.{scan-flag}
 use Rattle.steps.specs.Steps.{Steps}
 use Rattle.steps.proofs.Then.{refused, does-as, does-then}
-use Rattle.steps.proofs.At.{steps-as, steps-none}
+use Rattle.steps.proofs.At.{steps-none}
 use Rattle.steps.proofs.LastOut.{still}
 use Rattle.scans.specs.Scanning.{stamped, noting, ScanIs, Fitting, Unheard, Heard}
 use Rattle.scans.proofs.Lists.{seenAs, flag-bit, bit-le, and-true, and-false, observed-new, observed-old}

@@ -1,6 +1,6 @@
 -- The islands that may sleep, from the last of the scan's list to the first: one that may, one that may not; counted, and written.
 use mathlib.Core.Path.{_≡_, refl, sym, _∙_, ap, subst}
-use mathlib.Core.Logic.{_⊎_, inl, inr, _≢_, ⊎-elim}
+use mathlib.Core.Logic.{_≢_, ⊎-elim}
 use mathlib.Core.Bool.{Bool, true, false, _&&_, _||_, not}
 use mathlib.Core.List.{List, [], _∷_, _++_, map, map-append, append-assoc, append-nil}
 use Prim.Native.Nat.{ℕ, zero, suc, _+_, _-_, _*_, _≤_, _<_}
@@ -8,20 +8,19 @@ use native.Mathlib.Omega.{arith}
 use borrow.Author.Tests.{eq-eqb, ne-eqb, le-leb, lt-leb}
 use lib.Dec.{eqb, leb}
 use lib.ListN.{length, getD, set, drop, length-append, length-set, length-map}
-use lib.Seq.{drop-cons, drop-set-lt, getD-set-same}
-use Rattle.lists.specs.Rules.{none, View, Rules, First, After, walk, listOf}
+use Rattle.lists.specs.Rules.{none, View, Rules, walk, listOf}
 use Rattle.lists.proofs.Laws.{held-in, full}
 use Rattle.lists.proofs.Order.{length-list}
 use Rattle.lists.proofs.Pigeon.{count-le}
 use Rattle.kinds.specs.declared.Sizes.{Sizes}
-use Rattle.state.specs.World.{Island, Observed, World, islandAt, live}
+use Rattle.state.specs.World.{Island, Observed, live}
 use Rattle.state.specs.Scan.{sleepable, sleepables}
-use Rattle.tables.specs.Layout.{Tables, tables, Extents, extents, members-in, scan-in}
+use Rattle.tables.specs.Layout.{Tables, tables, extents, members-in, scan-in}
 use Rattle.tables.specs.Decode.{flag, observedAt, worldOf}
 use Rattle.tables.specs.Sound.{Sound}
 use Rattle.steps.proofs.Names.{island-at}
 use Rattle.scans.specs.Scanning.{restful, restful-to, Wrote}
-use Rattle.scans.proofs.Lists.{sleepables-append, sleepables-le, sleepables-yes, sleepables-no}
+use Rattle.scans.proofs.Lists.{sleepables-le, sleepables-yes, sleepables-no}
 
 -- ---- may the island i sleep, by its words
 abbrev wordsRest : (fit bodies asleep count : ℕ) → Bool

@@ -4,8 +4,8 @@ use mathlib.Core.Logic.{_≢_}
 use mathlib.Core.Bool.{Bool, true, false}
 use mathlib.Core.List.{List, [], map}
 use Prim.Native.Nat.{ℕ, _+_, _<_}
-use lib.ListN.{length, getD, set}
-use Rattle.lists.specs.Rules.{none, listOf, walk}
+use lib.ListN.{getD, set}
+use Rattle.lists.specs.Rules.{none, walk}
 use Rattle.kinds.specs.declared.Sizes.{Sizes}
 use Rattle.kinds.specs.declared.Scan.{Scan}
 use Rattle.state.specs.Plain.{dropLast}

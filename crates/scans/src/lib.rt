@@ -1,7 +1,7 @@
 // The sleep scan, an island that is marked asleep, an island that wakes: on sound tables.
 ghost use mathlib.Core.Path.{_≡_};
 ghost use mathlib.Core.Bool.{true};
-ghost use Prim.Native.Nat.{ℕ, _+_, _*_, _<_, _≤_};
+ghost use Prim.Native.Nat.{_+_, _*_, _<_, _≤_};
 ghost use lib.ListN.{length, drop};
 ghost use mathlib.Core.List.{_++_};
 ghost use Rattle.state.specs.Scan.{begin-sleep-scan, observe-body-for-sleep, sleepable, mark-island-sleeping, wake-island};

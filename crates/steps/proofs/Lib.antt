@@ -33,7 +33,6 @@ pub mod Merge
 pub mod LinkContact
 pub mod PushJoint
 pub mod GrowPlace
-pub mod Journal
 pub mod UnlinkJoint
 pub mod Renumber
 pub mod LinkJoint

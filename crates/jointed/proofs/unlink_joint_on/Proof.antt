@@ -179,7 +179,7 @@ push-entry-requires c κs =
     let t-get = c15 .get in
     let c24 = c15 .before .before .before .before .before .before .before .before .before in
     let t-pre = c24 .pre in
-    (t-take-joint2 .ensures .taken (t-pre .0) .steps .does .sound, t-get .ensures .0 ∙ sym (ap (λ (x : List ℕ). getD x 4 0) (t-take-joint2 .ensures .stays .head)), omega (arith, t-if3 .left), omega (arith, t-if3 .left, t-struct-known))
+    (t-take-joint2 .ensures .taken (t-pre .0) .steps .does .sound, (let a = ap (λ (x : List ℕ). getD x 4 0) (t-take-joint2 .ensures .stays .head) in omega (arith, a, t-get .ensures .0, t-if3 .left)))
 
 same-length-4 : tie.Need-same-length-4
 same-length-4 c =

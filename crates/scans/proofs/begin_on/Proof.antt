@@ -1,17 +1,8 @@
-use native.Mathlib.Omega.{arith}
-use mathlib.Core.Path.{_≡_, refl, sym, _∙_, ap, subst}
-use denote.Ref.{now}
 use Rattle.scans.proofs.Finish.{empty-fitting}
 use Rattle.scans.proofs.Keep.{begun}
 use borrow.Author.Needs.{needs}
 use Rattle.scans.proofs.begin_on.Statement.{statement}
 use Rattle.scans.proofs.begin_on.Tie as tie
-use Rattle.scans.proofs.begin_on.Reads as reads
-use Rattle.scans.proofs.begin_on.Lts as lts
-use Rattle.kinds.proofs.Scan.begin.Reads as begin-reads
-use Rattle.scans.proofs.clear_scan.Reads as clear-scan-reads
-use Rattle.scans.proofs.keep_scan.Reads as keep-scan-reads
-use Rattle.scans.proofs.scan_of.Reads as scan-of-reads
 
 clear-scan-requires : tie.Need-clear-scan-requires
 clear-scan-requires c κs = search needs

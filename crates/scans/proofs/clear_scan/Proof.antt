@@ -1,6 +1,5 @@
 use native.Mathlib.Omega.{arith}
-use mathlib.Core.Path.{_≡_, refl, sym, _∙_, ap, subst}
-use denote.Ref.{now}
+use mathlib.Core.Path.{_≡_, sym, _∙_}
 use Prim.Native.Nat.{ℕ}
 use mathlib.Core.List.{List}
 use Rattle.tables.specs.Layout.{tables, scan-in}
@@ -9,10 +8,6 @@ use Rattle.scans.specs.Scanning.{Forgotten}
 use Rattle.scans.proofs.Forget.{forgotten-none, forgotten-more}
 use Rattle.scans.proofs.clear_scan.Statement.{statement}
 use Rattle.scans.proofs.clear_scan.Tie as tie
-use Rattle.scans.proofs.clear_scan.Reads as reads
-use Rattle.scans.proofs.clear_scan.Lts as lts
-use Rattle.scans.proofs.forget_last.Reads as forget-last-reads
-use Rattle.store.proofs.count.Reads as count-reads
 
 abbrev Inv-loop : tie.InvT-loop
 Inv-loop t₀ z left₀ t left = Sound z t × (left ≡ scan-in z (tables z t) .count 0) × ((u : List ℕ) → Forgotten z t u → Forgotten z t₀ u)

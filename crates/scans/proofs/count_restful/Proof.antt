@@ -1,23 +1,16 @@
 use Prim.Native.Nat.{_*_}
 use lib.ListN.{getD}
-use borrow.Author.Needs.{needs}
 use native.Mathlib.Omega.{arith}
-use mathlib.Core.Path.{_≡_, refl, sym, _∙_, ap, subst}
+use mathlib.Core.Path.{_≡_, sym, _∙_, ap}
 use denote.Ref.{now}
 use mathlib.Core.Logic.{_≢_, ⊎-elim}
-use Prim.Native.Nat.{ℕ, _+_, _-_, _≤_, _<_}
+use Prim.Native.Nat.{ℕ, _+_}
 use lib.ListN.{length}
 use Rattle.tables.specs.Layout.{tables, scan-in}
 use Rattle.scans.specs.Scanning.{restful, restful-to}
 use Rattle.scans.proofs.Restful.{Stands, stands-last, stands-prev, restful-le, restful-all, restful-none, counted-yes, counted-no}
 use Rattle.scans.proofs.count_restful.Statement.{statement}
 use Rattle.scans.proofs.count_restful.Tie as tie
-use Rattle.scans.proofs.count_restful.Reads as reads
-use Rattle.scans.proofs.count_restful.Lts as lts
-use Rattle.scans.proofs.may_sleep.Reads as may-sleep-reads
-use Rattle.store.proofs.count.Reads as count-reads
-use Rattle.store.proofs.get.Reads as get-reads
-use Rattle.store.proofs.last.Reads as last-reads
 
 abbrev Inv-loop : tie.InvT-loop
 Inv-loop t z left₀ e₀ found₀ left e found = (left ≢ 0 → Stands z t left e) × (length (restful-to z t left e) + found ≡ length (restful z t))

@@ -1,19 +1,10 @@
 use native.Mathlib.Omega.{arith}
-use mathlib.Core.Path.{_≡_, refl, sym, _∙_, ap, subst}
 use denote.Ref.{now}
 use borrow.Author.Tests.{not-true, not-false}
 use Rattle.scans.proofs.Finish.{finish-shut, finish-short, finish-done, empty-fitting}
 use borrow.Author.Needs.{needs}
 use Rattle.scans.proofs.finish_on.Statement.{statement}
 use Rattle.scans.proofs.finish_on.Tie as tie
-use Rattle.scans.proofs.finish_on.Reads as reads
-use Rattle.scans.proofs.finish_on.Lts as lts
-use Rattle.kinds.proofs.Scan.close.Reads as close-reads
-use Rattle.scans.proofs.clear_scan.Reads as clear-scan-reads
-use Rattle.scans.proofs.count_restful.Reads as count-restful-reads
-use Rattle.scans.proofs.keep_scan.Reads as keep-scan-reads
-use Rattle.scans.proofs.scan_of.Reads as scan-of-reads
-use Rattle.scans.proofs.write_restful.Reads as write-restful-reads
 
 scan-of-requires : tie.Need-scan-of-requires
 scan-of-requires c κs = search needs

@@ -1,15 +1,8 @@
-use native.Mathlib.Omega.{arith}
-use mathlib.Core.Path.{_≡_, refl, sym, _∙_, ap, subst}
-use denote.Ref.{now}
+use mathlib.Core.Path.{_∙_}
 use Rattle.scans.proofs.Forget.{scan-last, forgot}
 use borrow.Author.Needs.{needs}
 use Rattle.scans.proofs.forget_last.Statement.{statement}
 use Rattle.scans.proofs.forget_last.Tie as tie
-use Rattle.scans.proofs.forget_last.Reads as reads
-use Rattle.scans.proofs.forget_last.Lts as lts
-use Rattle.store.proofs.last.Reads as last-reads
-use Rattle.store.proofs.remove.Reads as remove-reads
-use Rattle.store.proofs.set.Reads as set-reads
 
 last-requires : tie.Need-last-requires
 last-requires c κs = search needs

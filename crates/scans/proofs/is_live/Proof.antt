@@ -1,14 +1,9 @@
 use native.Mathlib.Omega.{arith}
-use mathlib.Core.Path.{_≡_, refl, sym, _∙_, ap, subst}
-use denote.Ref.{now}
+use mathlib.Core.Path.{sym, _∙_}
 use Rattle.scans.proofs.Asleep.{live-far, live-empty, live-some}
 use borrow.Author.Needs.{needs}
 use Rattle.scans.proofs.is_live.Statement.{statement}
 use Rattle.scans.proofs.is_live.Tie as tie
-use Rattle.scans.proofs.is_live.Reads as reads
-use Rattle.scans.proofs.is_live.Lts as lts
-use Rattle.store.proofs.count.Reads as count-reads
-use Rattle.store.proofs.get.Reads as get-reads
 
 get-requires : tie.Need-get-requires
 get-requires c κs = search needs

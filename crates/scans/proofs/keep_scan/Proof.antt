@@ -1,14 +1,7 @@
-use native.Mathlib.Omega.{arith}
-use mathlib.Core.Path.{_≡_, refl, sym, _∙_, ap, subst}
-use denote.Ref.{now}
 use Rattle.scans.proofs.Keep.{scan-kept}
 use borrow.Author.Needs.{needs}
 use Rattle.scans.proofs.keep_scan.Statement.{statement}
 use Rattle.scans.proofs.keep_scan.Tie as tie
-use Rattle.scans.proofs.keep_scan.Reads as reads
-use Rattle.scans.proofs.keep_scan.Lts as lts
-use Rattle.bodies.proofs.bit.Reads as bit-reads
-use Rattle.store.proofs.set2.Reads as set2-reads
 
 bit-requires : tie.Need-bit-requires
 bit-requires c κs = search needs

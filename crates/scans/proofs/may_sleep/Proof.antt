@@ -1,14 +1,9 @@
 use native.Mathlib.Omega.{arith}
-use mathlib.Core.Path.{_≡_, refl, sym, _∙_, ap, subst}
-use denote.Ref.{now}
+use mathlib.Core.Path.{sym, _∙_}
 use Rattle.scans.proofs.Restful.{may-unfit, may-dead, may-asleep, may-whole, may-many, may-one}
 use borrow.Author.Needs.{needs}
 use Rattle.scans.proofs.may_sleep.Statement.{statement}
 use Rattle.scans.proofs.may_sleep.Tie as tie
-use Rattle.scans.proofs.may_sleep.Reads as reads
-use Rattle.scans.proofs.may_sleep.Lts as lts
-use Rattle.store.proofs.count.Reads as count-reads
-use Rattle.store.proofs.get.Reads as get-reads
 
 get-requires : tie.Need-get-requires
 get-requires c κs = search needs

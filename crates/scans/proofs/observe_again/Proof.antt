@@ -1,13 +1,7 @@
-use native.Mathlib.Omega.{arith}
-use mathlib.Core.Path.{_≡_, refl, sym, _∙_, ap, subst}
-use denote.Ref.{now}
 use Rattle.scans.proofs.Observe.{again-yes, again-no}
 use borrow.Author.Needs.{needs}
 use Rattle.scans.proofs.observe_again.Statement.{statement}
 use Rattle.scans.proofs.observe_again.Tie as tie
-use Rattle.scans.proofs.observe_again.Reads as reads
-use Rattle.scans.proofs.observe_again.Lts as lts
-use Rattle.store.proofs.set.Reads as set-reads
 
 returns : tie.Need-returns
 returns c =

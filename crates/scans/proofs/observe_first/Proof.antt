@@ -1,18 +1,9 @@
 use native.Mathlib.Omega.{arith}
-use mathlib.Core.Path.{_≡_, refl, sym, _∙_, ap, subst}
-use denote.Ref.{now}
+use mathlib.Core.Path.{_∙_}
 use Rattle.scans.proofs.Observe.{scan-ready, waiting-lt, first-fitting, first-noted}
 use borrow.Author.Needs.{needs}
 use Rattle.scans.proofs.observe_first.Statement.{statement}
 use Rattle.scans.proofs.observe_first.Tie as tie
-use Rattle.scans.proofs.observe_first.Reads as reads
-use Rattle.scans.proofs.observe_first.Lts as lts
-use Rattle.bodies.proofs.bit.Reads as bit-reads
-use Rattle.kinds.proofs.Scan.observe.Reads as observe-reads
-use Rattle.scans.proofs.keep_scan.Reads as keep-scan-reads
-use Rattle.scans.proofs.scan_of.Reads as scan-of-reads
-use Rattle.store.proofs.push.Reads as push-reads
-use Rattle.store.proofs.set.Reads as set-reads
 
 scan-of-requires : tie.Need-scan-of-requires
 scan-of-requires c κs = search needs

@@ -1,18 +1,10 @@
 use native.Mathlib.Omega.{arith}
-use mathlib.Core.Path.{_≡_, refl, sym, _∙_, ap, subst}
-use denote.Ref.{now}
+use mathlib.Core.Path.{sym, _∙_}
 use borrow.Author.Tests.{not-true, not-false}
 use Rattle.scans.proofs.Observe.{observe-dead, observe-shut, observe-noted}
 use borrow.Author.Needs.{needs}
 use Rattle.scans.proofs.observe_on.Statement.{statement}
 use Rattle.scans.proofs.observe_on.Tie as tie
-use Rattle.scans.proofs.observe_on.Reads as reads
-use Rattle.scans.proofs.observe_on.Lts as lts
-use Rattle.scans.proofs.is_live.Reads as is-live-reads
-use Rattle.scans.proofs.observe_again.Reads as observe-again-reads
-use Rattle.scans.proofs.observe_first.Reads as observe-first-reads
-use Rattle.store.proofs.get.Reads as get-reads
-use Rattle.store.proofs.home.Reads as home-reads
 
 is-live-requires : tie.Need-is-live-requires
 is-live-requires c κs = search needs

@@ -1,14 +1,7 @@
-use native.Mathlib.Omega.{arith}
-use mathlib.Core.Path.{_≡_, refl, sym, _∙_, ap, subst}
-use denote.Ref.{now}
 use Rattle.scans.proofs.Asleep.{rested}
 use borrow.Author.Needs.{needs}
 use Rattle.scans.proofs.rest.Statement.{statement}
 use Rattle.scans.proofs.rest.Tie as tie
-use Rattle.scans.proofs.rest.Reads as reads
-use Rattle.scans.proofs.rest.Lts as lts
-use Rattle.bodies.proofs.bit.Reads as bit-reads
-use Rattle.store.proofs.set.Reads as set-reads
 
 bit-requires : tie.Need-bit-requires
 bit-requires c κs = search needs

@@ -1,15 +1,9 @@
-use native.Mathlib.Omega.{arith}
-use mathlib.Core.Path.{_≡_, refl, sym, _∙_, ap, subst}
-use denote.Ref.{now}
+use mathlib.Core.Path.{ap}
 use lib.Dec.{eqb}
 use Prim.Native.Nat.{ℕ}
 use borrow.Author.Needs.{needs}
 use Rattle.scans.proofs.scan_of.Statement.{statement}
 use Rattle.scans.proofs.scan_of.Tie as tie
-use Rattle.scans.proofs.scan_of.Reads as reads
-use Rattle.scans.proofs.scan_of.Lts as lts
-use Rattle.store.proofs.count.Reads as count-reads
-use Rattle.store.proofs.get.Reads as get-reads
 
 get-requires : tie.Need-get-requires
 get-requires c κs = search needs

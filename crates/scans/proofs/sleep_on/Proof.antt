@@ -1,16 +1,9 @@
-use native.Mathlib.Omega.{arith}
-use mathlib.Core.Path.{_≡_, refl, sym, _∙_, ap, subst}
-use denote.Ref.{now}
+use mathlib.Core.Path.{sym, _∙_}
 use borrow.Author.Tests.{not-true, not-false}
-use Rattle.scans.proofs.Asleep.{sleep-dead, wake-dead, slept, woken}
+use Rattle.scans.proofs.Asleep.{sleep-dead, slept}
 use borrow.Author.Needs.{needs}
 use Rattle.scans.proofs.sleep_on.Statement.{statement}
 use Rattle.scans.proofs.sleep_on.Tie as tie
-use Rattle.scans.proofs.sleep_on.Reads as reads
-use Rattle.scans.proofs.sleep_on.Lts as lts
-use Rattle.leaves.proofs.clear_pending_split_of.Reads as clear-pending-split-of-reads
-use Rattle.scans.proofs.is_live.Reads as is-live-reads
-use Rattle.scans.proofs.rest.Reads as rest-reads
 
 is-live-requires : tie.Need-is-live-requires
 is-live-requires c κs = search needs

@@ -1,15 +1,9 @@
-use native.Mathlib.Omega.{arith}
-use mathlib.Core.Path.{_≡_, refl, sym, _∙_, ap, subst}
-use denote.Ref.{now}
+use mathlib.Core.Path.{sym, _∙_}
 use borrow.Author.Tests.{not-true, not-false}
-use Rattle.scans.proofs.Asleep.{sleep-dead, wake-dead, slept, woken}
+use Rattle.scans.proofs.Asleep.{wake-dead, woken}
 use borrow.Author.Needs.{needs}
 use Rattle.scans.proofs.wake_on.Statement.{statement}
 use Rattle.scans.proofs.wake_on.Tie as tie
-use Rattle.scans.proofs.wake_on.Reads as reads
-use Rattle.scans.proofs.wake_on.Lts as lts
-use Rattle.scans.proofs.is_live.Reads as is-live-reads
-use Rattle.scans.proofs.rest.Reads as rest-reads
 
 is-live-requires : tie.Need-is-live-requires
 is-live-requires c κs = search needs

@@ -1,14 +1,10 @@
 use native.Mathlib.Omega.{arith}
-use mathlib.Core.Path.{_≡_, refl, sym, _∙_, ap, subst}
-use denote.Ref.{now}
-use mathlib.Core.Bool.{true, false, false≢true}
+use mathlib.Core.Path.{refl, sym, _∙_}
+use mathlib.Core.Bool.{false≢true}
 use borrow.Author.Tests.{not-true, not-false}
 use borrow.Author.Needs.{needs}
 use Rattle.scans.proofs.write_one.Statement.{statement}
 use Rattle.scans.proofs.write_one.Tie as tie
-use Rattle.scans.proofs.write_one.Reads as reads
-use Rattle.scans.proofs.write_one.Lts as lts
-use Rattle.scans.proofs.may_sleep.Reads as may-sleep-reads
 
 may-sleep-requires : tie.Need-may-sleep-requires
 may-sleep-requires c κs = search needs

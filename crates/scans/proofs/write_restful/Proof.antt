@@ -1,23 +1,13 @@
 use Prim.Native.Nat.{_*_}
 use lib.ListN.{getD}
 use native.Mathlib.Omega.{arith}
-use mathlib.Core.Path.{_≡_, refl, sym, _∙_, ap, subst}
+use mathlib.Core.Path.{_≡_, _∙_, ap}
 use denote.Ref.{now}
-use mathlib.Core.Logic.{_≢_, ⊎-elim}
-use borrow.Author.Needs.{needs}
-use Prim.Native.Nat.{ℕ, _+_, _-_, _≤_, _<_}
-use lib.ListN.{length}
+use Prim.Native.Nat.{ℕ, _+_}
 use Rattle.tables.specs.Layout.{tables, scan-in}
-use Rattle.scans.specs.Scanning.{restful, restful-to}
 use Rattle.scans.proofs.Restful.{Written, written-start, written-room, written-more, written-all}
 use Rattle.scans.proofs.write_restful.Statement.{statement}
 use Rattle.scans.proofs.write_restful.Tie as tie
-use Rattle.scans.proofs.write_restful.Reads as reads
-use Rattle.scans.proofs.write_restful.Lts as lts
-use Rattle.scans.proofs.write_one.Reads as write-one-reads
-use Rattle.store.proofs.count.Reads as count-reads
-use Rattle.store.proofs.get.Reads as get-reads
-use Rattle.store.proofs.last.Reads as last-reads
 
 abbrev Inv-loop : tie.InvT-loop
 Inv-loop t z out₀ n left₀ e₀ k₀ out left e k = Written z t out₀ left e k out

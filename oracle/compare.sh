@@ -5,7 +5,7 @@
 #
 # From a tie that the two break differently, or a step out of the domain of equality (docs/DIFFERENCES.md), to the next reset nothing is
 # compared, and C counts what was. A script has 2,000 commands, 20,000 in the modes big and pile; edge, whose full tables take long to audit, is run on
-# every third seed. LEAVE_OUT='split|run' leaves those commands out of all scripts; LESSON is another program to compare.
+# every third seed (STEP=1: on every one). LENGTH=2000 gives every script so many commands; MODES='small,pile room' are the modes instead of all; LEAVE_OUT='split|run' leaves those commands out of all scripts; LESSON is another program to compare.
 set -eu
 here=$(cd "$(dirname "$0")" && pwd)
 root=$(cd "$here/.." && pwd)
@@ -20,11 +20,13 @@ need python3 python3
 work=$(mktemp -d)
 trap 'rm -r "$work"' EXIT
 total=0 different=0
-for mode in small "small wild" "small room" mid "mid wild" "mid room" edge "edge wild" "edge room" big "big room" pile "pile room"; do
+all="small,small wild,small room,mid,mid wild,mid room,edge,edge wild,edge room,big,big room,pile,pile room"
+IFS=, read -r -a modes <<< "${MODES:-$all}"
+for mode in "${modes[@]}"; do
     case $mode in
-    edge*) length=2000 step=3 ;;
-    big* | pile*) length=20000 step=1 ;;
-    *) length=2000 step=1 ;;
+    edge*) length=${LENGTH:-2000} step=${STEP:-3} ;;
+    big* | pile*) length=${LENGTH:-20000} step=1 ;;
+    *) length=${LENGTH:-2000} step=1 ;;
     esac
     for ((seed = first; seed < first + seeds; seed += step)); do
         # shellcheck disable=SC2086

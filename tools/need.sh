@@ -43,7 +43,7 @@ need_cargo() {
 need_archive() {
     local archive=$1/target/staticlib/librig.a crate newer=
     for crate in rig $(sed -n 's/^rig: //p' "$1/crates.txt"); do
-        newer=$newer$(find "$1/crates/$crate/src" -name '*.rt' -newer "$archive" -print -quit 2>&1)
+        newer=$newer$(find "$1/crates/$crate/src" -name '*.rt' -newer "$archive" -print -quit 2>&1 || true)
     done
     if [ -z "$newer" ]; then return; fi
     command -v rt > /dev/null || { echo "no $archive and no rt to build it: the Rattle kit has rt" >&2; exit 1; }

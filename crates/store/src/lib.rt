@@ -23,25 +23,8 @@ pub fn buffer_long(z: Sizes) -> usize
     15 + 9 * n + 18 * m + 8 * e + 16 * j + 4 * l
 }
 
-// Where a table begins. The tables that the walks read most come first, in a function so small that the compiler puts it where it is called; there the choice is made once, not at each word.
+// Where a table begins.
 pub fn table_at(z: Sizes, k: Table) -> usize
-    ensures { λ r. ⌜ r ≡ tableAt z k ⌝ }
-{
-    let n = z.slots as usize;
-    let m = z.islands as usize;
-    let e = z.edges as usize;
-    match k {
-        Table::Head => 0,
-        Table::Slots => 9,
-        Table::Members => 9 + 5 * n,
-        Table::Contacts => 11 + 9 * n + 9 * m,
-        Table::Touches => 11 + 9 * n + 11 * m + 4 * e,
-        _ => far_at(z, k),
-    }
-}
-
-// Where any table begins.
-fn far_at(z: Sizes, k: Table) -> usize
     ensures { λ r. ⌜ r ≡ tableAt z k ⌝ }
 {
     let n = z.slots as usize;

@@ -43,6 +43,29 @@ pub fn root(parent: &[u32], i: u32, height: u32) -> u32
     root(parent, p, height - 1)
 }
 
+// The root of i. Most places are at most two steps from theirs, so three steps are taken here and only the rest by calls.
+fn find(parent: &[u32], i: u32) -> u32
+    requires { ⌜ RootReady (now parent) i ⌝ }
+    ensures { λ r. ⌜ r ≡ climb (at (now (parent .entry))) 12 i ⌝ }
+{
+    let k = i as usize;
+    let p = parent[k];
+    if p == i {
+        return i;
+    }
+    let j = p as usize;
+    let q = parent[j];
+    if q == p {
+        return p;
+    }
+    let l = q as usize;
+    let u = parent[l];
+    if u == q {
+        return q;
+    }
+    root(parent, u, HEIGHT - 3)
+}
+
 // Hangs the root s under the root b, whose tree then has m places.
 fn hang(parent: &mut [u32], size: &mut [u32], s: u32, b: u32, m: u32)
     requires { ⌜ (s < length (now parent)) × (b < length (now size)) ⌝ }
@@ -59,8 +82,8 @@ pub fn join(parent: &mut [u32], size: &mut [u32], a: u32, b: u32) -> bool
     requires { ⌜ JoinReady (now parent) (now size) a b ⌝ }
     ensures { λ r. ⌜ Joins (length (now (parent .entry))) (at (now (parent .entry))) (at (now (parent .exit))) (at (now (size .exit))) a b r ⌝ }
 {
-    let r = root(parent, a, HEIGHT);
-    let q = root(parent, b, HEIGHT);
+    let r = find(parent, a);
+    let q = find(parent, b);
     if r == q {
         return false;
     }
@@ -89,7 +112,7 @@ pub fn keep(parent: &[u32], size: &[u32]) -> u32
     // One turn for each place: at most 4,096.
     while i < n {
         let k = i as u32;
-        let r = root(parent, k, HEIGHT);
+        let r = find(parent, k);
         let j = r as usize;
         let s = size[j];
         if top < s {
@@ -139,7 +162,7 @@ pub fn name(parent: &[u32], first: &mut [u32], labels: &mut [u32])
     // One turn for each place: at most 4,096.
     while i < n {
         let k = i as u32;
-        let r = root(parent, k, HEIGHT);
+        let r = find(parent, k);
         labels[i] = lead(first, r, k);
         i += 1;
     }

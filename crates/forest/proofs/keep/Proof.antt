@@ -27,15 +27,15 @@ loop-holds c = (search needs, refl, sym (most-none _ .0), sym (most-none _ .1))
 cast-k : tie.Need-cast-k Inv-loop μ-loop
 cast-k c = let m = c .before .before .before .before .pre .forest .n-small in omega arith
 
-root-requires : tie.Need-root-requires Inv-loop μ-loop
-root-requires c κs = record { within = c .before .before .before .before .pre .forest .within; place-lt = omega arith }
+find-requires : tie.Need-find-requires Inv-loop μ-loop
+find-requires c κs = record { within = c .before .before .before .before .pre .forest .within; place-lt = omega arith }
 
 shared-slice-read-s : tie.Need-shared-slice-read-s Inv-loop μ-loop
 unfolding rootOf
 shared-slice-read-s c =
     let K = c .before .before .before .before .before .before .pre in
     let k = root-lt (K .forest) (c .before .before .before .loop .i) (omega arith) in
-    let e = c .before .root .ensures in
+    let e = c .before .find .ensures in
     let l = K .as-long in
     omega arith
 
@@ -45,7 +45,7 @@ loop-again c =
     let parent : List ℕ = c .before .before .before .before .before .before .before .args .parent .now in
     let size : List ℕ = c .before .before .before .before .before .before .before .args .size .now in
     let v = c .before .before .before .before .loop .inv in
-    let e = ap (at size) (c .before .before .root .ensures) in
+    let e = ap (at size) (c .before .before .find .ensures) in
     let f : ℕ → ℕ = λ k. at size (rootOf (at parent) k) in
     let r : (c .if1 .top ≡ most f (c .before .before .before .before .loop .i + 1)) × (c .if1 .best ≡ first f (c .before .before .before .before .loop .i + 1)) =
     ⊎-elim (λ w. scan-more f (c .before .before .before .before .loop .i) e (v .2) (v .3) (w .0 .taken) (w .1) (w .2))
@@ -69,7 +69,7 @@ keep-spec =
     tie.close
     (tie.spec Inv-loop μ-loop loop-holds
     cast-k
-    root-requires
+    find-requires
     (λ c. search needs)
     (λ c. search needs)
     shared-slice-read-s

@@ -43,12 +43,12 @@ loop-holds c =
 cast-k : tie.Need-cast-k Inv-loop μ-loop
 cast-k c = let m = c .before .before .before .before .before .before .before .before .before .pre .n-small in omega arith
 
-root-requires : tie.Need-root-requires Inv-loop μ-loop
-root-requires c κs = record { within = c .before .before .before .before .before .before .before .before .before .pre .within; place-lt = omega arith }
+find-requires : tie.Need-find-requires Inv-loop μ-loop
+find-requires c κs = record { within = c .before .before .before .before .before .before .before .before .before .pre .within; place-lt = omega arith }
 
 lead-requires : tie.Need-lead-requires Inv-loop μ-loop
 lead-requires c κs =
-    let e = c .before .root .ensures in
+    let e = c .before .find .ensures in
     let k = climb-lt _ _ (c .before .before .before .before .before .before .before .before .before .before .before .pre .within) 12 (c .before .before .before .loop .i) (omega arith) in
     omega arith
 
@@ -61,7 +61,7 @@ loop-again c =
     let il : c .before .before .before .before .before .before .loop .i < n = omega arith in
     let long : length (c .before .before .before .before .before .before .loop .first) ≡ n = omega arith in
     let E : Led (c .before .before .before .before .before .before .loop .first) (c .before .before .lead .last .0) (rootOf (at (c .before .before .before .before .before .before .before .before .before .before .before .before .before .before .args .parent .now)) (c .before .before .before .before .before .before .loop .i)) (c .before .before .before .before .before .before .loop .i) (c .before .before .lead .result) =
-    rw (c .before .before .before .before .root .ensures) at (c .before .before .lead .ensures) in (
+    rw (c .before .before .before .before .find .ensures) at (c .before .before .lead .ensures) in (
       search needs,
       refl,
       c .before .before .lead .kept .0 ∙ v .2,
@@ -88,7 +88,7 @@ name-spec =
     (λ c κs. search needs)
     loop-holds
     cast-k
-    root-requires
+    find-requires
     lead-requires
     (λ c. search needs)
     (λ c. search needs)

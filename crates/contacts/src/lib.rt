@@ -86,17 +86,8 @@ pub fn take_contact(t: &mut [u32], z: Sizes, e: u32)
     requires { ⌜ Loosely z (now t) × (e < extents (tables z (now t)) .edges) × (contacts-in z (tables z (now t)) .home e ≢ none) ⌝ }
     ensures { λ _. ⌜ ContactGone z e (now (t .entry)) (now (t .exit)) ⌝ }
 {
-    store::remove(t, z, Table::Contacts, e);
-    store::set4(
-        t,
-        z,
-        Table::Touches,
-        4 * (e as usize),
-        NONE,
-        NONE,
-        NONE,
-        NONE,
-    );
+    store::remove_edge(t, z, e);
+    store::set_touch(t, z, 4 * (e as usize), NONE, NONE, NONE, NONE);
 }
 
 // One more entry of the journal, for which there is room.
@@ -104,9 +95,9 @@ pub fn push_entry(t: &mut [u32], z: Sizes, s1: u32, g1: u32, s2: u32, g2: u32)
     requires { ⌜ Sound z (now t) × (extents (tables z (now t)) .journal < z .journal) ⌝ }
     ensures { λ _. ⌜ Steps z (journalled (handle s1 g1) (handle s2 g2)) (now (t .entry)) (now (t .exit)) ⌝ }
 {
-    let l = store::get(t, z, Table::Head, 4);
-    store::set4(t, z, Table::Journal, 4 * (l as usize), s1, g1, s2, g2);
-    store::set(t, z, Table::Head, 4, l + 1);
+    let l = store::head_word(t, z, 4);
+    store::set_entry(t, z, 4 * (l as usize), s1, g1, s2, g2);
+    store::set_head(t, z, 4, l + 1);
 }
 
 // Is it the same body?
@@ -127,23 +118,23 @@ pub fn unlink_contact_on(t: &mut [u32], z: Sizes, e: u32) -> Answer
     requires { ⌜ Sound z (now t) ⌝ }
     ensures { λ r. ⌜ Does z (unlink-contact z e) (now (t .entry)) r (now (t .exit)) ⌝ }
 {
-    let n = store::get(t, z, Table::Head, 2);
+    let n = store::head_word(t, z, 2);
     if e >= n {
         return Answer::Nothing;
     }
-    let i = store::home(t, z, Table::Contacts, e);
+    let i = store::edge_home(t, z, e);
     if i == NONE {
         return Answer::Nothing;
     }
-    let s1 = store::get(t, z, Table::Touches, 4 * (e as usize));
-    let g1 = store::get(t, z, Table::Touches, 4 * (e as usize) + 1);
-    let s2 = store::get(t, z, Table::Touches, 4 * (e as usize) + 2);
-    let g2 = store::get(t, z, Table::Touches, 4 * (e as usize) + 3);
+    let s1 = store::touch_word(t, z, 4 * (e as usize));
+    let g1 = store::touch_word(t, z, 4 * (e as usize) + 1);
+    let s2 = store::touch_word(t, z, 4 * (e as usize) + 2);
+    let g2 = store::touch_word(t, z, 4 * (e as usize) + 3);
     if same_handle(s1, g1, s2, g2) {
         take_contact(t, z, e);
         return Answer::Done;
     }
-    let l = store::get(t, z, Table::Head, 4);
+    let l = store::head_word(t, z, 4);
     if l >= z.journal {
         return Answer::JournalFull;
     }

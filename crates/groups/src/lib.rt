@@ -5,7 +5,7 @@ ghost use Prim.Native.Nat.{ℕ, _+_, _≤_, _<_};
 ghost use lib.ListN.{length};
 ghost use Rattle.lists.specs.Table.{pick};
 ghost use Rattle.state.specs.Split.{node-of};
-ghost use Rattle.tables.specs.Layout.{tables, extents, tableOf, tableLong, chain-in};
+ghost use Rattle.tables.specs.Layout.{tables, extents, tableOf, tableAt, tableLong, chain-in};
 ghost use Rattle.tables.specs.Decode.{worldOf};
 ghost use Rattle.tables.specs.Sound.{Sound};
 ghost use Rattle.steps.specs.Steps.{handle};
@@ -30,27 +30,28 @@ fn node_of(t: &[u32], z: Sizes, i: u32, slot: u32, generation: u32) -> u32
     shifts::node_at(t, z, i, slot, generation)
 }
 
-// The link whose two handles are the four words at j of the table w: where both ends are members of i, their places are joined. Says whether they were apart.
+// The link whose two handles are the four words at j of the table w, which begins at the word from: where both ends are members of i, their places are joined. Says whether they were apart.
 fn join_link(
     t: &[u32],
     z: Sizes,
     w: Table,
+    from: usize,
     j: usize,
     i: u32,
     parent: &mut [u32],
     size: &mut [u32],
 ) -> bool
-    requires { ⌜ Over z (now t) i (now parent) (now size) × (j + 4 ≤ tableLong z w) ⌝ }
+    requires { ⌜ Over z (now t) i (now parent) (now size) × (from ≡ tableAt z w) × (j + 4 ≤ tableLong z w) ⌝ }
     ensures { λ r. ⌜ Goes (length (now (parent .entry))) (at (now (parent .entry))) (at (now (parent .exit))) (at (now (size .exit))) (pairEnds (worldOf z (now (t .entry))) i (pairAt (tableOf w (tables z (now (t .entry)))) j ∷ [])) (pick r 1 0) ⌝ }
 {
-    let s1 = store::get(t, z, w, j);
-    let g1 = store::get(t, z, w, j + 1);
+    let s1 = store::get_from(t, z, w, from, j);
+    let g1 = store::get_from(t, z, w, from, j + 1);
     let a = node_of(t, z, i, s1, g1);
     if a == NONE {
         return false;
     }
-    let s2 = store::get(t, z, w, j + 2);
-    let g2 = store::get(t, z, w, j + 3);
+    let s2 = store::get_from(t, z, w, from, j + 2);
+    let g2 = store::get_from(t, z, w, from, j + 3);
     let b = node_of(t, z, i, s2, g2);
     if b == NONE {
         return false;
@@ -73,16 +74,18 @@ fn join_links(
     requires { ⌜ Over z (now t) i (now parent) (now size) × Walks z (now t) k w a b i ⌝ }
     ensures { λ r. ⌜ Goes (length (now (parent .entry))) (at (now (parent .entry))) (at (now (parent .exit))) (at (now (size .exit))) (pairEnds (worldOf z (now (t .entry))) i (pairsIn (chain-in z k (tables z (now (t .entry)))) (tableOf w (tables z (now (t .entry)))) a b i)) r ⌝ }
 {
+    let chain = store::table_at(z, k);
+    let from = store::table_at(z, w);
     let mut left = store::count(t, z, k, i);
     let mut e = store::last(t, z, k, i);
     let mut joins: u32 = 0;
     // One turn for each link of the list: as many as the list's count, at most as many as the table has room for.
     while left > 0 {
         let j = a * (e as usize) + b;
-        if join_link(t, z, w, j, i, parent, size) {
+        if join_link(t, z, w, from, j, i, parent, size) {
             joins += 1;
         }
-        e = store::get(t, z, k, 4 * (e as usize) + 2);
+        e = store::get_from(t, z, k, chain, 4 * (e as usize) + 2);
         left -= 1;
     }
     joins

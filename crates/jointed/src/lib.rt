@@ -141,19 +141,10 @@ pub fn take_joint(t: &mut [u32], z: Sizes, p: u32)
     requires { ⌜ Loosely z (now t) × (p < extents (tables z (now t)) .joints) × (joints-in z (tables z (now t)) .home p ≢ none) ⌝ }
     ensures { λ _. ⌜ JointGone z p (now (t .entry)) (now (t .exit)) ⌝ }
 {
-    store::remove(t, z, Table::Joints, p);
-    store::set4(t, z, Table::Keys, 8 * (p as usize), NONE, NONE, NONE, NONE);
-    store::set4(
-        t,
-        z,
-        Table::Keys,
-        8 * (p as usize) + 4,
-        NONE,
-        NONE,
-        NONE,
-        NONE,
-    );
-    store::push(t, z, Table::Spare, 0, p);
+    store::remove_joint(t, z, p);
+    store::set_key(t, z, 8 * (p as usize), NONE, NONE, NONE, NONE);
+    store::set_key(t, z, 8 * (p as usize) + 4, NONE, NONE, NONE, NONE);
+    store::push_spare(t, z, p);
 }
 
 // Does the link at the place p lead from a body to itself?
@@ -163,10 +154,10 @@ fn same_ends(t: &[u32], z: Sizes, p: u32) -> bool
 {
     let i = 8 * (p as usize) + 4;
     let j = 8 * (p as usize) + 6;
-    if store::get(t, z, Table::Keys, i) != store::get(t, z, Table::Keys, j) {
+    if store::key_word(t, z, i) != store::key_word(t, z, j) {
         return false;
     }
-    if store::get(t, z, Table::Keys, i + 1) != store::get(t, z, Table::Keys, j + 1) {
+    if store::key_word(t, z, i + 1) != store::key_word(t, z, j + 1) {
         return false;
     }
     true
@@ -185,16 +176,16 @@ pub fn unlink_joint_on(t: &mut [u32], z: Sizes, kind: u32, a: u32, b: u32, c: u3
         take_joint(t, z, p);
         return Answer::Done;
     }
-    let l = store::get(t, z, Table::Head, 4);
+    let l = store::head_word(t, z, 4);
     if l >= z.journal {
         return Answer::JournalFull;
     }
     let i = 8 * (p as usize) + 4;
     let j = 8 * (p as usize) + 6;
-    let s1 = store::get(t, z, Table::Keys, i);
-    let g1 = store::get(t, z, Table::Keys, i + 1);
-    let s2 = store::get(t, z, Table::Keys, j);
-    let g2 = store::get(t, z, Table::Keys, j + 1);
+    let s1 = store::key_word(t, z, i);
+    let g1 = store::key_word(t, z, i + 1);
+    let s2 = store::key_word(t, z, j);
+    let g2 = store::key_word(t, z, j + 1);
     take_joint(t, z, p);
     contacts::push_entry(t, z, s1, g1, s2, g2);
     Answer::Done

@@ -32,7 +32,7 @@ pub fn resolve_on(t: &mut [u32], z: Sizes) -> Answer
     requires { ⌜ Sound z (now t) ⌝ }
     ensures { λ r. ⌜ Does z resolve-removals (now (t .entry)) r (now (t .exit)) ⌝ }
 {
-    let entries = store::get(t, z, Table::Head, 4);
+    let entries = store::head_word(t, z, 4);
     if entries == 0 {
         return Answer::Nothing;
     }
@@ -40,13 +40,13 @@ pub fn resolve_on(t: &mut [u32], z: Sizes) -> Answer
     // One turn for each entry of the journal: at most as many as it has room for.
     while k < entries {
         let j = 4 * (k as usize);
-        let s1 = store::get(t, z, Table::Journal, j);
-        let g1 = store::get(t, z, Table::Journal, j + 1);
-        let s2 = store::get(t, z, Table::Journal, j + 2);
-        let g2 = store::get(t, z, Table::Journal, j + 3);
+        let s1 = store::journal_word(t, z, j);
+        let g1 = store::journal_word(t, z, j + 1);
+        let s2 = store::journal_word(t, z, j + 2);
+        let g2 = store::journal_word(t, z, j + 3);
         count_entry(t, z, s1, g1, s2, g2);
         k += 1;
     }
-    store::set(t, z, Table::Head, 4, 0);
+    store::set_head(t, z, 4, 0);
     Answer::Done
 }

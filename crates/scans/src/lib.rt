@@ -150,19 +150,19 @@ fn may_sleep(t: &[u32], z: Sizes, i: u32) -> bool
     requires { ⌜ Sound z (now t) × (i < extents (tables z (now t)) .islands) ⌝ }
     ensures { λ r. ⌜ r ≡ sleepable (worldOf z (now (t .entry))) (observedAt (tables z (now (t .entry)) .fit) i) ⌝ }
 {
-    let f = store::get(t, z, Table::Fit, i as usize);
+    let f = store::fit_word(t, z, i as usize);
     if f != 1 {
         return false;
     }
-    let c = store::count(t, z, Table::Members, i);
+    let c = store::body_count(t, z, i);
     if c == 0 {
         return false;
     }
-    let a = store::get(t, z, Table::Rows, 3 * (i as usize) + 2);
+    let a = store::row_word(t, z, 3 * (i as usize) + 2);
     if a == 1 {
         return false;
     }
-    let r = store::get(t, z, Table::Rows, 3 * (i as usize));
+    let r = store::row_word(t, z, 3 * (i as usize));
     if r == 0 {
         return true;
     }

@@ -26,6 +26,9 @@ use Rattle.steps.proofs.Names.{island-at, named-absent, named-far, named-at, is
 use Rattle.shifts.specs.Shift.{nodeAt}
 
 -- the words of an element
+pub home-word : (x : List ℕ) (z e : ℕ) → getD x (4 * e) 0 ≡ view x 0 z .home e
+home-word x z e = let q : 4 * e ≡ 0 + 4 * e = omega arith in ap (λ (k : ℕ). getD x k 0) q
+
 pub place-word : (x : List ℕ) (z e : ℕ) → getD x (4 * e + 1) 0 ≡ view x 0 z .place e
 place-word x z e = let q : 4 * e + 1 ≡ 0 + 4 * e + 1 = omega arith in ap (λ (k : ℕ). getD x k 0) q
 

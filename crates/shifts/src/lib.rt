@@ -16,22 +16,22 @@ pub fn node_at(t: &[u32], z: Sizes, i: u32, s: u32, g: u32) -> u32
     requires { ⌜ (length (now t) ≡ total z) × (extents (tables z (now t)) .slots ≤ z .slots) ⌝ }
     ensures { λ r. ⌜ (r ≡ nodeAt z (tables z (now (t .entry))) i (handle s g)) × (r ≤ 4294967295) ⌝ }
 {
-    let n = store::get(t, z, Table::Head, 0);
+    let n = store::head_word(t, z, 0);
     if s >= n {
         return NONE;
     }
     if g == NONE {
         return NONE;
     }
-    let live = store::get(t, z, Table::Slots, 5 * (s as usize));
+    let live = store::slot_word(t, z, 5 * (s as usize));
     if live != g {
         return NONE;
     }
-    let h = store::home(t, z, Table::Members, s);
+    let h = store::member_word(t, z, 4 * (s as usize));
     if h != i {
         return NONE;
     }
-    store::get(t, z, Table::Members, 4 * (s as usize) + 1)
+    store::member_word(t, z, 4 * (s as usize) + 1)
 }
 
 // The contact link e goes to the end of the list of the island to.

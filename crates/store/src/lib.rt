@@ -7,7 +7,7 @@ ghost use Rattle.lists.specs.Table.{pushed, removed, PushReady, RemoveReady, Wf
 ghost use Rattle.lists.specs.Word.{writes};
 ghost use Rattle.splice.specs.Splice.{spliced, SpliceReady};
 ghost use Rattle.frame.specs.Part.{Put};
-ghost use Rattle.tables.specs.Layout.{tables, total, tableAt, tableLong, tableOf, room, listRoom, chain-in};
+ghost use Rattle.tables.specs.Layout.{tables, total, tableAt, tableLong, tableOf, room, listRoom, chain-in, members-in, contacts-in, contactsAt, contactsLong, touchesAt, jointsAt, jointsLong, keysAt, spareAt, spareLong, journalAt};
 use kinds::Sizes;
 use tables::Table;
 
@@ -110,6 +110,15 @@ pub fn get(t: &[u32], z: Sizes, k: Table, j: usize) -> u32
     frame::get_in(t, a, n, j)
 }
 
+// The same where the table is known to begin at a: for a walk over a table that its caller chose.
+pub fn get_from(t: &[u32], z: Sizes, k: Table, a: usize, j: usize) -> u32
+    requires { ⌜ (length (now t) ≡ total z) × (a ≡ tableAt z k) × (j < tableLong z k) ⌝ }
+    ensures { λ r. ⌜ (r ≡ getD (tableOf k (tables z (now (t .entry)))) j 0) × (r ≤ 4294967295) ⌝ }
+{
+    let n = table_long(z, k);
+    frame::get_in(t, a, n, j)
+}
+
 pub fn set(t: &mut [u32], z: Sizes, k: Table, j: usize, v: u32)
     requires { ⌜ (length (now t) ≡ total z) × (j < tableLong z k) ⌝ }
     ensures { λ _. ⌜ Put (tableAt z k) (tableLong z k) (now (t .entry)) (now (t .exit)) (set (tableOf k (tables z (now (t .entry)))) j v) ⌝ }
@@ -199,6 +208,88 @@ pub fn last(t: &[u32], z: Sizes, k: Table, i: u32) -> u32
     frame::get_in(t, a, n, b + 2 * (i as usize) + 1)
 }
 
+// ---- the words that walks read most: as get and count, of one table. The compiler works out where that one begins once a walk.
+
+// A word of the head.
+pub fn head_word(t: &[u32], z: Sizes, j: usize) -> u32
+    requires { ⌜ (length (now t) ≡ total z) × (j < 9) ⌝ }
+    ensures { λ r. ⌜ (r ≡ getD (tables z (now (t .entry)) .head) j 0) × (r ≤ 4294967295) ⌝ }
+{
+    get(t, z, Table::Head, j)
+}
+
+// A word of the slots.
+pub fn slot_word(t: &[u32], z: Sizes, j: usize) -> u32
+    requires { ⌜ (length (now t) ≡ total z) × (j < 5 * z .slots) ⌝ }
+    ensures { λ r. ⌜ (r ≡ getD (tables z (now (t .entry)) .slots) j 0) × (r ≤ 4294967295) ⌝ }
+{
+    get(t, z, Table::Slots, j)
+}
+
+// A word of the islands' lists of bodies.
+pub fn member_word(t: &[u32], z: Sizes, j: usize) -> u32
+    requires { ⌜ (length (now t) ≡ total z) × (j < 4 * z .slots + 2 * z .islands) ⌝ }
+    ensures { λ r. ⌜ (r ≡ getD (tables z (now (t .entry)) .members) j 0) × (r ≤ 4294967295) ⌝ }
+{
+    get(t, z, Table::Members, j)
+}
+
+// How many bodies the island i has.
+pub fn body_count(t: &[u32], z: Sizes, i: u32) -> u32
+    requires { ⌜ (length (now t) ≡ total z) × (i < z .islands) ⌝ }
+    ensures { λ r. ⌜ (r ≡ members-in z (tables z (now (t .entry))) .count i) × (r ≤ 4294967295) ⌝ }
+{
+    count(t, z, Table::Members, i)
+}
+
+// A word of the islands' rows.
+pub fn row_word(t: &[u32], z: Sizes, j: usize) -> u32
+    requires { ⌜ (length (now t) ≡ total z) × (j < 3 * z .islands) ⌝ }
+    ensures { λ r. ⌜ (r ≡ getD (tables z (now (t .entry)) .rows) j 0) × (r ≤ 4294967295) ⌝ }
+{
+    get(t, z, Table::Rows, j)
+}
+
+// Whether an island is fit for sleep.
+pub fn fit_word(t: &[u32], z: Sizes, j: usize) -> u32
+    requires { ⌜ (length (now t) ≡ total z) × (j < z .islands) ⌝ }
+    ensures { λ r. ⌜ (r ≡ getD (tables z (now (t .entry)) .fit) j 0) × (r ≤ 4294967295) ⌝ }
+{
+    get(t, z, Table::Fit, j)
+}
+
+// A word of the edges' handles.
+pub fn touch_word(t: &[u32], z: Sizes, j: usize) -> u32
+    requires { ⌜ (length (now t) ≡ total z) × (j < 4 * z .edges) ⌝ }
+    ensures { λ r. ⌜ (r ≡ getD (tables z (now (t .entry)) .touches) j 0) × (r ≤ 4294967295) ⌝ }
+{
+    get(t, z, Table::Touches, j)
+}
+
+// A word of the joint places' keys and handles.
+pub fn key_word(t: &[u32], z: Sizes, j: usize) -> u32
+    requires { ⌜ (length (now t) ≡ total z) × (j < 8 * z .joints) ⌝ }
+    ensures { λ r. ⌜ (r ≡ getD (tables z (now (t .entry)) .keys) j 0) × (r ≤ 4294967295) ⌝ }
+{
+    get(t, z, Table::Keys, j)
+}
+
+// A word of the journal.
+pub fn journal_word(t: &[u32], z: Sizes, j: usize) -> u32
+    requires { ⌜ (length (now t) ≡ total z) × (j < 4 * z .journal) ⌝ }
+    ensures { λ r. ⌜ (r ≡ getD (tables z (now (t .entry)) .journal) j 0) × (r ≤ 4294967295) ⌝ }
+{
+    get(t, z, Table::Journal, j)
+}
+
+// The island of an edge's link: NONE where it has none.
+pub fn edge_home(t: &[u32], z: Sizes, e: u32) -> u32
+    requires { ⌜ (length (now t) ≡ total z) × (e < z .edges) ⌝ }
+    ensures { λ r. ⌜ (r ≡ contacts-in z (tables z (now (t .entry))) .home e) × (r ≤ 4294967295) ⌝ }
+{
+    home(t, z, Table::Contacts, e)
+}
+
 // The element e, which is in no list, is put last in the list i.
 pub fn push(t: &mut [u32], z: Sizes, k: Table, i: u32, e: u32)
     requires { ⌜ (length (now t) ≡ total z) × PushReady (tableOf k (tables z (now t))) 0 (4 * room z k) i e ⌝ }
@@ -230,6 +321,64 @@ pub fn splice(t: &mut [u32], z: Sizes, k: Table, big: u32, small: u32)
     let n = table_long(z, k);
     let b = ends_at(z, k);
     frame::splice_in(t, a, n, b, big, small);
+}
+
+// ---- the writes that the unlinks and the journal make
+
+// A word of the head becomes v.
+pub fn set_head(t: &mut [u32], z: Sizes, j: usize, v: u32)
+    requires { ⌜ (length (now t) ≡ total z) × (j < 9) ⌝ }
+    ensures { λ _. ⌜ Put 0 9 (now (t .entry)) (now (t .exit)) (set (tables z (now (t .entry)) .head) j v) ⌝ }
+{
+    set(t, z, Table::Head, j, v);
+}
+
+// Four words of an edge.
+pub fn set_touch(t: &mut [u32], z: Sizes, j: usize, v0: u32, v1: u32, v2: u32, v3: u32)
+    requires { ⌜ (length (now t) ≡ total z) × (j + 4 ≤ 4 * z .edges) ⌝ }
+    ensures { λ _. ⌜ Put (touchesAt z) (4 * z .edges) (now (t .entry)) (now (t .exit)) (writes (tables z (now (t .entry)) .touches) ((j, v0) ∷ (j + 1, v1) ∷ (j + 2, v2) ∷ (j + 3, v3) ∷ [])) ⌝ }
+{
+    set4(t, z, Table::Touches, j, v0, v1, v2, v3);
+}
+
+// Four words of a joint place.
+pub fn set_key(t: &mut [u32], z: Sizes, j: usize, v0: u32, v1: u32, v2: u32, v3: u32)
+    requires { ⌜ (length (now t) ≡ total z) × (j + 4 ≤ 8 * z .joints) ⌝ }
+    ensures { λ _. ⌜ Put (keysAt z) (8 * z .joints) (now (t .entry)) (now (t .exit)) (writes (tables z (now (t .entry)) .keys) ((j, v0) ∷ (j + 1, v1) ∷ (j + 2, v2) ∷ (j + 3, v3) ∷ [])) ⌝ }
+{
+    set4(t, z, Table::Keys, j, v0, v1, v2, v3);
+}
+
+// Four words of the journal.
+pub fn set_entry(t: &mut [u32], z: Sizes, j: usize, v0: u32, v1: u32, v2: u32, v3: u32)
+    requires { ⌜ (length (now t) ≡ total z) × (j + 4 ≤ 4 * z .journal) ⌝ }
+    ensures { λ _. ⌜ Put (journalAt z) (4 * z .journal) (now (t .entry)) (now (t .exit)) (writes (tables z (now (t .entry)) .journal) ((j, v0) ∷ (j + 1, v1) ∷ (j + 2, v2) ∷ (j + 3, v3) ∷ [])) ⌝ }
+{
+    set4(t, z, Table::Journal, j, v0, v1, v2, v3);
+}
+
+// The edge e is taken out of its island's list.
+pub fn remove_edge(t: &mut [u32], z: Sizes, e: u32)
+    requires { ⌜ (length (now t) ≡ total z) × RemoveReady (tables z (now t) .contacts) 0 (4 * z .edges) e ⌝ }
+    ensures { λ _. ⌜ Put (contactsAt z) (contactsLong z) (now (t .entry)) (now (t .exit)) (removed (tables z (now (t .entry)) .contacts) 0 (4 * z .edges) e) ⌝ }
+{
+    remove(t, z, Table::Contacts, e);
+}
+
+// The joint place p is taken out of its island's list.
+pub fn remove_joint(t: &mut [u32], z: Sizes, p: u32)
+    requires { ⌜ (length (now t) ≡ total z) × RemoveReady (tables z (now t) .joints) 0 (4 * z .joints) p ⌝ }
+    ensures { λ _. ⌜ Put (jointsAt z) (jointsLong z) (now (t .entry)) (now (t .exit)) (removed (tables z (now (t .entry)) .joints) 0 (4 * z .joints) p) ⌝ }
+{
+    remove(t, z, Table::Joints, p);
+}
+
+// The joint place p is the last that was freed.
+pub fn push_spare(t: &mut [u32], z: Sizes, p: u32)
+    requires { ⌜ (length (now t) ≡ total z) × PushReady (tables z (now t) .spare) 0 (4 * z .joints) 0 p ⌝ }
+    ensures { λ _. ⌜ Put (spareAt z) (spareLong z) (now (t .entry)) (now (t .exit)) (pushed (tables z (now (t .entry)) .spare) 0 (4 * z .joints) 0 p) ⌝ }
+{
+    push(t, z, Table::Spare, 0, p);
 }
 
 // Do the rules of a chain table hold of its first n elements and m lists?

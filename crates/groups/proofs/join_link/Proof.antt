@@ -9,18 +9,18 @@ use Rattle.groups.proofs.OneLink.{first-node, second-node, link-past, l
 use Rattle.groups.proofs.join_link.Statement.{statement}
 use Rattle.groups.proofs.join_link.Tie as tie
 
-get-requires : tie.Need-get-requires
-get-requires c κs = search needs
+get-from-requires : tie.Need-get-from-requires
+get-from-requires c κs = search needs
 
-add-get : tie.Need-add-get
-add-get c =
+add-get-from : tie.Need-add-get-from
+add-get-from c =
     let c4 = c .before .before .before .before in
     let t-args = c4 .args in
     let t-pre = c4 .pre in
-    let n = inside (t-args .z) (t-args .w) in let l = t-pre .0 .sound .long in omega (arith, t-pre .1)
+    let n = inside (t-args .z) (t-args .w) in let l = t-pre .0 .sound .long in omega (arith, t-pre .2)
 
-get-requires-2 : tie.Need-get-requires-2
-get-requires-2 c κs = search needs
+get-from-requires-2 : tie.Need-get-from-requires-2
+get-from-requires-2 c κs = search needs
 
 node-of-requires : tie.Need-node-of-requires
 node-of-requires c κs = search needs
@@ -31,33 +31,33 @@ returns c =
     let c1 = c .before in
     let t-node-of = c1 .node-of in
     let c2 = c1 .before in
-    let t-get2 = c2 .get2 in
+    let t-get2 = c2 .get-from2 in
     let c3 = c2 .before in
-    let t-get = c3 .get in
+    let t-get = c3 .get-from in
     let c7 = c3 .before .before .before .before in
     let t-args = c7 .args in
     let t-pre = c7 .pre in
     let x = tableOf (t-args .w) (tables (t-args .z) (now (t-args .t))) in let p = first-node (t-pre .0) x (t-args .j) (t-node-of .ensures) (t-get .ensures .0) (t-get2 .ensures .0) in link-past (t-pre .0) x (t-args .j) (inl (sym p ∙ t-if1 .taken))
 
-add-get-2 : tie.Need-add-get-2
-add-get-2 c =
+add-get-from-2 : tie.Need-add-get-from-2
+add-get-from-2 c =
     let c7 = c .before .before .before .before .before .before .before in
     let t-args = c7 .args in
     let t-pre = c7 .pre in
-    let n = inside (t-args .z) (t-args .w) in let l = t-pre .0 .sound .long in omega (arith, t-pre .1)
+    let n = inside (t-args .z) (t-args .w) in let l = t-pre .0 .sound .long in omega (arith, t-pre .2)
 
-get-requires-3 : tie.Need-get-requires-3
-get-requires-3 c κs = search needs
+get-from-requires-3 : tie.Need-get-from-requires-3
+get-from-requires-3 c κs = search needs
 
-add-get-3 : tie.Need-add-get-3
-add-get-3 c =
+add-get-from-3 : tie.Need-add-get-from-3
+add-get-from-3 c =
     let c8 = c .before .before .before .before .before .before .before .before in
     let t-args = c8 .args in
     let t-pre = c8 .pre in
-    let n = inside (t-args .z) (t-args .w) in let l = t-pre .0 .sound .long in omega (arith, t-pre .1)
+    let n = inside (t-args .z) (t-args .w) in let l = t-pre .0 .sound .long in omega (arith, t-pre .2)
 
-get-requires-4 : tie.Need-get-requires-4
-get-requires-4 c κs = search needs
+get-from-requires-4 : tie.Need-get-from-requires-4
+get-from-requires-4 c κs = search needs
 
 node-of-requires-2 : tie.Need-node-of-requires-2
 node-of-requires-2 c κs = search needs
@@ -68,9 +68,9 @@ returns-2 c =
     let c1 = c .before in
     let t-node-of2 = c1 .node-of2 in
     let c2 = c1 .before in
-    let t-get4 = c2 .get4 in
+    let t-get4 = c2 .get-from4 in
     let c3 = c2 .before in
-    let t-get3 = c3 .get3 in
+    let t-get3 = c3 .get-from3 in
     let c11 = c3 .before .before .before .before .before .before .before .before in
     let t-args = c11 .args in
     let t-pre = c11 .pre in
@@ -83,17 +83,17 @@ join-requires c κs =
     let c3 = c2 .before in
     let t-node-of2 = c3 .node-of2 in
     let c4 = c3 .before in
-    let t-get4 = c4 .get4 in
+    let t-get4 = c4 .get-from4 in
     let c5 = c4 .before in
-    let t-get3 = c5 .get3 in
+    let t-get3 = c5 .get-from3 in
     let c6 = c5 .before in
     let t-if1 = c6 .if1 in
     let c7 = c6 .before in
     let t-node-of = c7 .node-of in
     let c8 = c7 .before in
-    let t-get2 = c8 .get2 in
+    let t-get2 = c8 .get-from2 in
     let c9 = c8 .before in
-    let t-get = c9 .get in
+    let t-get = c9 .get-from in
     let c13 = c9 .before .before .before .before in
     let t-args = c13 .args in
     let t-pre = c13 .pre in
@@ -114,17 +114,17 @@ returns-3 c =
     let c8 = c7 .before in
     let t-node-of2 = c8 .node-of2 in
     let c9 = c8 .before in
-    let t-get4 = c9 .get4 in
+    let t-get4 = c9 .get-from4 in
     let c10 = c9 .before in
-    let t-get3 = c10 .get3 in
+    let t-get3 = c10 .get-from3 in
     let c11 = c10 .before in
     let t-if1 = c11 .if1 in
     let c12 = c11 .before in
     let t-node-of = c12 .node-of in
     let c13 = c12 .before in
-    let t-get2 = c13 .get2 in
+    let t-get2 = c13 .get-from2 in
     let c14 = c13 .before in
-    let t-get = c14 .get in
+    let t-get = c14 .get-from in
     let c18 = c14 .before .before .before .before in
     let t-args = c18 .args in
     let t-pre = c18 .pre in
@@ -134,15 +134,15 @@ pub join-link-spec : {M : Type 1} → statement M
 join-link-spec =
     tie.close
     (tie.spec
-    get-requires
-    add-get
-    get-requires-2
+    get-from-requires
+    add-get-from
+    get-from-requires-2
     node-of-requires
     returns
-    add-get-2
-    get-requires-3
-    add-get-3
-    get-requires-4
+    add-get-from-2
+    get-from-requires-3
+    add-get-from-3
+    get-from-requires-4
     node-of-requires-2
     returns-2
     join-requires

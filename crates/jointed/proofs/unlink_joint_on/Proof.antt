@@ -68,8 +68,8 @@ returns-2 c =
     let t-pre = c11 .pre in
     unlinks-self (t-args .kind) (t-args .a) (t-args .b) (t-args .c) (t-pre .0) (t-pre .1) (t-find-place .result) (found-at (t-pre .0) (t-find-place .ensures) (t-if1 .left)) (sym (t-same-ends .ensures) ∙ t-if2 .taken) (t-take-joint .ensures .taken (t-pre .0))
 
-get-requires : tie.Need-get-requires
-get-requires c κs = search needs
+head-word-requires : tie.Need-head-word-requires
+head-word-requires c κs = search needs
 
 same-length-3 : tie.Need-same-length-3
 same-length-3 c = search needs
@@ -78,7 +78,7 @@ returns-3 : tie.Need-returns-3
 returns-3 c =
     let t-if3 = c .if3 in
     let c2 = c .before .before in
-    let t-get = c2 .get in
+    let t-head-word = c2 .head-word in
     let c4 = c2 .before .before in
     let t-if2 = c4 .if2 in
     let c5 = c4 .before in
@@ -90,7 +90,7 @@ returns-3 c =
     let c11 = c8 .before .before .before in
     let t-args = c11 .args in
     let t-pre = c11 .pre in
-    unlinks-full (t-args .kind) (t-args .a) (t-args .b) (t-args .c) (t-pre .0) (t-pre .1) (t-find-place .result) (found-at (t-pre .0) (t-find-place .ensures) (t-if1 .left)) (sym (t-same-ends .ensures) ∙ t-if2 .left) (omega (arith, t-get .ensures .0, t-if3 .taken))
+    unlinks-full (t-args .kind) (t-args .a) (t-args .b) (t-args .c) (t-pre .0) (t-pre .1) (t-find-place .result) (found-at (t-pre .0) (t-find-place .ensures) (t-if1 .left)) (sym (t-same-ends .ensures) ∙ t-if2 .left) (omega (arith, t-head-word .ensures .0, t-if3 .taken))
 
 cast-i : tie.Need-cast-i
 cast-i c = search needs
@@ -110,8 +110,8 @@ mul-j c = search needs
 add-j : tie.Need-add-j
 add-j c = search needs
 
-get-requires-2 : tie.Need-get-requires-2
-get-requires-2 c κs =
+key-word-requires : tie.Need-key-word-requires
+key-word-requires c κs =
     let c8 = c .before .before .before .before .before .before .before .before in
     let t-if1 = c8 .if1 in
     let c9 = c8 .before in
@@ -120,11 +120,11 @@ get-requires-2 c κs =
     let t-pre = c12 .pre in
     (t-pre .0 .long, (let h = found-fits (t-pre .0) (t-find-place .ensures) (t-if1 .left) in omega arith))
 
-add-get : tie.Need-add-get
-add-get c = search needs
+add-key-word : tie.Need-add-key-word
+add-key-word c = search needs
 
-get-requires-3 : tie.Need-get-requires-3
-get-requires-3 c κs =
+key-word-requires-2 : tie.Need-key-word-requires-2
+key-word-requires-2 c κs =
     let c10 = c .before .before .before .before .before .before .before .before .before .before in
     let t-if1 = c10 .if1 in
     let c11 = c10 .before in
@@ -133,8 +133,8 @@ get-requires-3 c κs =
     let t-pre = c14 .pre in
     (t-pre .0 .long, (let h = found-fits (t-pre .0) (t-find-place .ensures) (t-if1 .left) in omega arith))
 
-get-requires-4 : tie.Need-get-requires-4
-get-requires-4 c κs =
+key-word-requires-3 : tie.Need-key-word-requires-3
+key-word-requires-3 c κs =
     let c12 = c .before .before .before .before .before .before .before .before .before .before .before .before in
     let t-if1 = c12 .if1 in
     let c13 = c12 .before in
@@ -143,11 +143,11 @@ get-requires-4 c κs =
     let t-pre = c16 .pre in
     (t-pre .0 .long, (let h = found-fits (t-pre .0) (t-find-place .ensures) (t-if1 .left) in omega arith))
 
-add-get-2 : tie.Need-add-get-2
-add-get-2 c = search needs
+add-key-word-2 : tie.Need-add-key-word-2
+add-key-word-2 c = search needs
 
-get-requires-5 : tie.Need-get-requires-5
-get-requires-5 c κs =
+key-word-requires-4 : tie.Need-key-word-requires-4
+key-word-requires-4 c κs =
     let c14 = c .before .before .before .before .before .before .before .before .before .before .before .before .before .before in
     let t-if1 = c14 .if1 in
     let c15 = c14 .before in
@@ -176,10 +176,10 @@ push-entry-requires c κs =
     let c14 = c13 .before in
     let t-struct-known = c14 .struct-known in
     let c15 = c14 .before in
-    let t-get = c15 .get in
+    let t-head-word = c15 .head-word in
     let c24 = c15 .before .before .before .before .before .before .before .before .before in
     let t-pre = c24 .pre in
-    (t-take-joint2 .ensures .taken (t-pre .0) .steps .does .sound, (let a = ap (λ (x : List ℕ). getD x 4 0) (t-take-joint2 .ensures .stays .head) in omega (arith, a, t-get .ensures .0, t-if3 .left)))
+    (t-take-joint2 .ensures .taken (t-pre .0) .steps .does .sound, (let a = ap (λ (x : List ℕ). getD x 4 0) (t-take-joint2 .ensures .stays .head) in omega (arith, a, t-head-word .ensures .0, t-if3 .left)))
 
 same-length-4 : tie.Need-same-length-4
 same-length-4 c =
@@ -196,17 +196,17 @@ returns-4 c =
     let c6 = c2 .before .before .before .before in
     let t-take-joint2 = c6 .take-joint2 in
     let c8 = c6 .before .before in
-    let t-get5 = c8 .get5 in
+    let t-key-word4 = c8 .key-word4 in
     let c10 = c8 .before .before in
-    let t-get4 = c10 .get4 in
+    let t-key-word3 = c10 .key-word3 in
     let c12 = c10 .before .before in
-    let t-get3 = c12 .get3 in
+    let t-key-word2 = c12 .key-word2 in
     let c14 = c12 .before .before in
-    let t-get2 = c14 .get2 in
+    let t-key-word = c14 .key-word in
     let c16 = c14 .before .before in
     let t-if3 = c16 .if3 in
     let c18 = c16 .before .before in
-    let t-get = c18 .get in
+    let t-head-word = c18 .head-word in
     let c20 = c18 .before .before in
     let t-if2 = c20 .if2 in
     let c21 = c20 .before in
@@ -218,7 +218,7 @@ returns-4 c =
     let c27 = c24 .before .before .before in
     let t-args = c27 .args in
     let t-pre = c27 .pre in
-    unlinks-some (t-args .kind) (t-args .a) (t-args .b) (t-args .c) (t-pre .0) (t-pre .1) (t-find-place .result) (found-at (t-pre .0) (t-find-place .ensures) (t-if1 .left)) (t-get2 .result) (t-get3 .result) (t-get4 .result) (t-get5 .result) (t-get2 .ensures .0) (t-get3 .ensures .0) (t-get4 .ensures .0) (t-get5 .ensures .0) (sym (t-same-ends .ensures) ∙ t-if2 .left) (omega (arith, t-get .ensures .0, t-if3 .left)) (t-take-joint2 .ensures .taken (t-pre .0)) (t-push-entry .ensures)
+    unlinks-some (t-args .kind) (t-args .a) (t-args .b) (t-args .c) (t-pre .0) (t-pre .1) (t-find-place .result) (found-at (t-pre .0) (t-find-place .ensures) (t-if1 .left)) (t-key-word .result) (t-key-word2 .result) (t-key-word3 .result) (t-key-word4 .result) (t-key-word .ensures .0) (t-key-word2 .ensures .0) (t-key-word3 .ensures .0) (t-key-word4 .ensures .0) (sym (t-same-ends .ensures) ∙ t-if2 .left) (omega (arith, t-head-word .ensures .0, t-if3 .left)) (t-take-joint2 .ensures .taken (t-pre .0)) (t-push-entry .ensures)
 
 pub unlink-joint-on-spec : {M : Type 1} → statement M
 unlink-joint-on-spec =
@@ -231,7 +231,7 @@ unlink-joint-on-spec =
     take-joint-requires
     same-length-2
     returns-2
-    get-requires
+    head-word-requires
     same-length-3
     returns-3
     cast-i
@@ -240,12 +240,12 @@ unlink-joint-on-spec =
     cast-j
     mul-j
     add-j
-    get-requires-2
-    add-get
-    get-requires-3
-    get-requires-4
-    add-get-2
-    get-requires-5
+    key-word-requires
+    add-key-word
+    key-word-requires-2
+    key-word-requires-3
+    add-key-word-2
+    key-word-requires-4
     take-joint-requires-2
     push-entry-requires
     same-length-4

@@ -199,21 +199,7 @@ pub fn split(t: &mut [u32], island: Island) -> Answer
     ensures { λ r. ⌜ Call rig (split-island-now (island .0)) (now (t .entry)) r (now (t .exit)) ⌝ }
 {
     let i = island.0;
-    let mut parent = [0u32; 4096];
-    let mut size = [0u32; 4096];
-    let mut first = [0u32; 4096];
-    let mut labels = [0u32; 4096];
-    let mut goals = [0u32; 4096];
-    sized::split(
-        t,
-        Sizes::RIG,
-        i,
-        &mut parent,
-        &mut size,
-        &mut first,
-        &mut labels,
-        &mut goals,
-    )
+    sized::split(t, Sizes::RIG, i)
 }
 
 // The island waits for its split; any number.
@@ -228,20 +214,7 @@ pub fn schedule(t: &mut [u32], island: Island) -> Answer
 pub fn run(t: &mut [u32]) -> Answer
     ensures { λ r. ⌜ Call rig run-pending-split (now (t .entry)) r (now (t .exit)) ⌝ }
 {
-    let mut parent = [0u32; 4096];
-    let mut size = [0u32; 4096];
-    let mut first = [0u32; 4096];
-    let mut labels = [0u32; 4096];
-    let mut goals = [0u32; 4096];
-    sized::run(
-        t,
-        Sizes::RIG,
-        &mut parent,
-        &mut size,
-        &mut first,
-        &mut labels,
-        &mut goals,
-    )
+    sized::run(t, Sizes::RIG)
 }
 
 // May the island bid for a split?

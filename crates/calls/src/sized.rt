@@ -1,6 +1,6 @@
 // The calls at any sizes, on any words: the audit, and then the step on sound tables.
 ghost use mathlib.Core.Path.{_≡_};
-ghost use Prim.Native.Nat.{_/_, _%_};
+ghost use Prim.Native.Nat.{_/_, _%_, _≤_};
 ghost use Rattle.state.specs.Bodies.{put as putStep, flags as flagsStep, retire as retireStep, island as islandOf};
 ghost use Rattle.state.specs.Membership.{ensure as ensureStep, remove as removeStep};
 ghost use Rattle.state.specs.Links.{link-contact, unlink-contact, contact-edge-removed, link-joint, unlink-joint};
@@ -10,7 +10,6 @@ ghost use Rattle.steps.specs.Chaining.{handlesFrom};
 ghost use lib.ListN.{length};
 ghost use Rattle.tables.specs.Does.{Call, Asks};
 ghost use Rattle.state.specs.Split.{split-island-now, schedule-split, run-pending-split};
-ghost use Rattle.splits.specs.Part.{Scratch};
 ghost use Rattle.calls.specs.Refusal.{noIsland, bidOf, noBid};
 ghost use Rattle.calls.specs.Keys.{keyIs};
 ghost use Rattle.steps.specs.Steps.{handle};
@@ -250,25 +249,16 @@ pub fn wake(t: &mut [u32], z: Sizes, i: u32) -> Answer
     scans::wake_on(t, z, i)
 }
 
-// ---- the split. Its scratch is lent: five slices with a word for each slot, whatever they hold.
+// ---- the split. Its scratch is local, for at most 4,096 bodies.
 
-pub fn split(
-    t: &mut [u32],
-    z: Sizes,
-    i: u32,
-    parent: &mut [u32],
-    size: &mut [u32],
-    first: &mut [u32],
-    labels: &mut [u32],
-    goals: &mut [u32],
-) -> Answer
-    requires { ⌜ Scratch z (now parent) (now size) (now first) (now labels) (now goals) ⌝ }
+pub fn split(t: &mut [u32], z: Sizes, i: u32) -> Answer
+    requires { ⌜ z .slots ≤ 4096 ⌝ }
     ensures { λ r. ⌜ Call z (split-island-now i) (now (t .entry)) r (now (t .exit)) ⌝ }
 {
     if !whole::sound(t, z) {
         return Answer::BadTables;
     }
-    splits::split_on(t, z, i, parent, size, first, labels, goals)
+    splits::split_on(t, z, i)
 }
 
 pub fn schedule(t: &mut [u32], z: Sizes, i: u32) -> Answer
@@ -280,22 +270,14 @@ pub fn schedule(t: &mut [u32], z: Sizes, i: u32) -> Answer
     splits::schedule_on(t, z, i)
 }
 
-pub fn run(
-    t: &mut [u32],
-    z: Sizes,
-    parent: &mut [u32],
-    size: &mut [u32],
-    first: &mut [u32],
-    labels: &mut [u32],
-    goals: &mut [u32],
-) -> Answer
-    requires { ⌜ Scratch z (now parent) (now size) (now first) (now labels) (now goals) ⌝ }
+pub fn run(t: &mut [u32], z: Sizes) -> Answer
+    requires { ⌜ z .slots ≤ 4096 ⌝ }
     ensures { λ r. ⌜ Call z run-pending-split (now (t .entry)) r (now (t .exit)) ⌝ }
 {
     if !whole::sound(t, z) {
         return Answer::BadTables;
     }
-    splits::run_on(t, z, parent, size, first, labels, goals)
+    splits::run_on(t, z)
 }
 
 pub fn bid(t: &[u32], z: Sizes, i: u32) -> BidAnswer

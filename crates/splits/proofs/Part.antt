@@ -5,8 +5,7 @@ use mathlib.Core.Bool.{Bool, true, false}
 use mathlib.Core.List.{List, map}
 use Prim.Native.Nat.{ℕ, zero, suc, _+_, _-_, _*_, _≤_, _<_}
 use native.Mathlib.Omega.{arith}
-use lib.ListN.{length, getD, take, length-map}
-use lib.Seq.{length-take-le}
+use lib.ListN.{length, getD, length-map}
 use lib.Dec.{eqb, ltb}
 use borrow.Author.Tests.{eq-eqb, ne-eqb, lt-ltb, le-ltb}
 use Rattle.lists.specs.Rules.{none, listOf}
@@ -301,13 +300,6 @@ module _ {Z : Sizes} {t : List ℕ} (i : ℕ) (S : Sound Z t) (A : Lives Z t i) 
   -- an island has no more bodies than there are slots
   pub few-bodies : members-in Z (tables Z t) .count i ≤ Z .slots
   few-bodies = let a = count-le (S .good .members-wf .rules) i (A .in-use) in let b = S .good .slots-le in omega arith
-
-  -- a slice of at least as many words, cut to one for each body
-  pub cut-le : (n : ℕ) (x : List ℕ) → n ≡ members-in Z (tables Z t) .count i → Z .slots ≤ length x → n ≤ length x
-  cut-le n x q h = let a = few-bodies in omega arith
-
-  pub cut-long : (n : ℕ) (x : List ℕ) → n ≡ members-in Z (tables Z t) .count i → Z .slots ≤ length x → length (take n x) ≡ n
-  cut-long n x q h = length-take-le n x (cut-le n x q h)
 
 pub labels-count : {Z : Sizes} {t L : List ℕ} (i : ℕ) → Sound Z t → Lives Z t i → L ≡ labelsOf (worldOf Z t) i → length L ≡ members-in Z (tables Z t) .count i
 unfolding labelsOf worldOf

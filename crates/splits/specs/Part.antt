@@ -36,8 +36,8 @@ pub record Parts (Z : Sizes) (base : ℕ) (t t′ : List ℕ) : Type 0 where
   pub steps : Steps Z (parting base) t t′
   pub lives : Lives Z t′ base
 
--- five slices of one word for each body of the island
-pub record SplitReady (Z : Sizes) (i : ℕ) (t parent size first labels goals : List ℕ) : Type 0 where
+-- four slices of one word for each body of the island
+pub record SplitReady (Z : Sizes) (i : ℕ) (t parent size first labels : List ℕ) : Type 0 where
   pub sound : Sound Z t
   pub lives : Lives Z t i
   pub few : Z .slots ≤ 4096
@@ -45,13 +45,17 @@ pub record SplitReady (Z : Sizes) (i : ℕ) (t parent size first labels goals : 
   pub size-long : length size ≡ members-in Z (tables Z t) .count i
   pub first-long : length first ≡ members-in Z (tables Z t) .count i
   pub labels-long : length labels ≡ members-in Z (tables Z t) .count i
-  pub goals-long : length goals ≡ members-in Z (tables Z t) .count i
 
--- five slices with a word for each slot, of which there are at most 4096
-pub record Scratch (Z : Sizes) (parent size first labels goals : List ℕ) : Type 0 where
+-- a live island of n bodies, of which there are at most 4096
+pub record Splittable (Z : Sizes) (i n : ℕ) (t : List ℕ) : Type 0 where
+  pub sound : Sound Z t
+  pub lives : Lives Z t i
   pub few : Z .slots ≤ 4096
-  pub parent-long : Z .slots ≤ length parent
-  pub size-long : Z .slots ≤ length size
-  pub first-long : Z .slots ≤ length first
-  pub labels-long : Z .slots ≤ length labels
-  pub goals-long : Z .slots ≤ length goals
+  pub bodies : n ≡ members-in Z (tables Z t) .count i
+
+-- four slices of at least n words
+pub record Scratch (n : ℕ) (parent size first labels : List ℕ) : Type 0 where
+  pub parent-long : n ≤ length parent
+  pub size-long : n ≤ length size
+  pub first-long : n ≤ length first
+  pub labels-long : n ≤ length labels

@@ -9,8 +9,7 @@ ghost use Rattle.tables.specs.Does.{Does};
 ghost use Rattle.steps.specs.Steps.{Steps};
 ghost use Rattle.steps.specs.Lives.{Lives};
 ghost use Rattle.splits.specs.Assign.{AssignReady, Assigning};
-ghost use Rattle.tables.specs.Layout.{tables, members-in};
-ghost use Rattle.splits.specs.Part.{PartReady, Parts, checking, splitting, SplitReady, Scratch};
+ghost use Rattle.splits.specs.Part.{PartReady, Parts, checking, splitting, SplitReady, Splittable, Scratch};
 use kinds::Answer;
 use kinds::Sizes;
 use tables::Table;
@@ -20,6 +19,9 @@ const MOST: u32 = 4294967295;
 
 // After a split an island may bid again when so many scans have begun.
 const COOLDOWN: u32 = 16;
+
+// So many bodies are few.
+const FEW: usize = 256;
 
 // Each place of the island base gets its goal, and each component that leaves its number, in the order of their first bodies.
 pub fn assign_goals(
@@ -89,7 +91,7 @@ pub fn check_island(t: &mut [u32], z: Sizes, i: u32)
     store::set2(t, z, Table::Rows, 3 * (i as usize), 0, d);
 }
 
-// split_island_now, of a live island, with a word of each slice for each of its bodies.
+// split_island_now, of a live island, with a word of each slice for each of its bodies. When the labels are known, first holds the goals.
 pub fn split_island(
     t: &mut [u32],
     z: Sizes,
@@ -98,9 +100,8 @@ pub fn split_island(
     size: &mut [u32],
     first: &mut [u32],
     labels: &mut [u32],
-    goals: &mut [u32],
 )
-    requires { ⌜ SplitReady z i (now t) (now parent) (now size) (now first) (now labels) (now goals) ⌝ }
+    requires { ⌜ SplitReady z i (now t) (now parent) (now size) (now first) (now labels) ⌝ }
     ensures { λ _. ⌜ Steps z (splitting i) (now (t .entry)) (now (t .exit)) ⌝ }
 {
     let shape = groups::label_island(t, z, i, parent, size, first, labels);
@@ -108,7 +109,7 @@ pub fn split_island(
         check_island(t, z, i);
         return;
     }
-    part_island(t, z, i, shape.keep, labels, goals);
+    part_island(t, z, i, shape.keep, labels, first);
     check_island(t, z, i);
 }
 
@@ -122,9 +123,8 @@ fn split_in(
     size: &mut [u32],
     first: &mut [u32],
     labels: &mut [u32],
-    goals: &mut [u32],
 )
-    requires { ⌜ Sound z (now t) × Lives z (now t) i × (n ≡ members-in z (tables z (now t)) .count i) × Scratch z (now parent) (now size) (now first) (now labels) (now goals) ⌝ }
+    requires { ⌜ Splittable z i n (now t) × Scratch n (now parent) (now size) (now first) (now labels) ⌝ }
     ensures { λ _. ⌜ Steps z (splitting i) (now (t .entry)) (now (t .exit)) ⌝ }
 {
     split_island(
@@ -135,22 +135,48 @@ fn split_in(
         &mut size[..n],
         &mut first[..n],
         &mut labels[..n],
-        &mut goals[..n],
     );
 }
 
+// The same in scratch of its own, of n bodies that are few: clearing more scratch would take longer than the split.
+fn split_few(t: &mut [u32], z: Sizes, i: u32, n: usize)
+    requires { ⌜ Splittable z i n (now t) × (n ≤ 256) ⌝ }
+    ensures { λ _. ⌜ Steps z (splitting i) (now (t .entry)) (now (t .exit)) ⌝ }
+{
+    let mut parent = [0u32; 256];
+    let mut size = [0u32; 256];
+    let mut first = [0u32; 256];
+    let mut labels = [0u32; 256];
+    split_in(t, z, i, n, &mut parent, &mut size, &mut first, &mut labels);
+}
+
+// The same, of any n bodies.
+fn split_many(t: &mut [u32], z: Sizes, i: u32, n: usize)
+    requires { ⌜ Splittable z i n (now t) ⌝ }
+    ensures { λ _. ⌜ Steps z (splitting i) (now (t .entry)) (now (t .exit)) ⌝ }
+{
+    let mut parent = [0u32; 4096];
+    let mut size = [0u32; 4096];
+    let mut first = [0u32; 4096];
+    let mut labels = [0u32; 4096];
+    split_in(t, z, i, n, &mut parent, &mut size, &mut first, &mut labels);
+}
+
+// split_island_now, of a live island with n bodies.
+fn split_live(t: &mut [u32], z: Sizes, i: u32, n: usize)
+    requires { ⌜ Splittable z i n (now t) ⌝ }
+    ensures { λ _. ⌜ Steps z (splitting i) (now (t .entry)) (now (t .exit)) ⌝ }
+{
+    if n <= FEW {
+        split_few(t, z, i, n);
+        return;
+    }
+    split_many(t, z, i, n);
+}
+
 // split_island_now: a number not live is 6.
-pub fn split_on(
-    t: &mut [u32],
-    z: Sizes,
-    i: u32,
-    parent: &mut [u32],
-    size: &mut [u32],
-    first: &mut [u32],
-    labels: &mut [u32],
-    goals: &mut [u32],
-) -> Answer
-    requires { ⌜ Sound z (now t) × Scratch z (now parent) (now size) (now first) (now labels) (now goals) ⌝ }
+pub fn split_on(t: &mut [u32], z: Sizes, i: u32) -> Answer
+    requires { ⌜ Sound z (now t) × (z .slots ≤ 4096) ⌝ }
     ensures { λ r. ⌜ Does z (split-island-now i) (now (t .entry)) r (now (t .exit)) ⌝ }
 {
     let m = store::get(t, z, Table::Head, 1);
@@ -162,7 +188,7 @@ pub fn split_on(
         return Answer::NoIsland;
     }
     let n = c as usize;
-    split_in(t, z, i, n, parent, size, first, labels, goals);
+    split_live(t, z, i, n);
     Answer::Done
 }
 
@@ -176,16 +202,8 @@ pub fn schedule_on(t: &mut [u32], z: Sizes, i: u32) -> Answer
 }
 
 // run_pending_split: it is cleared; a live, awake island is split.
-pub fn run_on(
-    t: &mut [u32],
-    z: Sizes,
-    parent: &mut [u32],
-    size: &mut [u32],
-    first: &mut [u32],
-    labels: &mut [u32],
-    goals: &mut [u32],
-) -> Answer
-    requires { ⌜ Sound z (now t) × Scratch z (now parent) (now size) (now first) (now labels) (now goals) ⌝ }
+pub fn run_on(t: &mut [u32], z: Sizes) -> Answer
+    requires { ⌜ Sound z (now t) × (z .slots ≤ 4096) ⌝ }
     ensures { λ r. ⌜ Does z run-pending-split (now (t .entry)) r (now (t .exit)) ⌝ }
 {
     let p = store::get(t, z, Table::Head, 5);
@@ -207,7 +225,7 @@ pub fn run_on(
         return Answer::Nothing;
     }
     let n = c as usize;
-    split_in(t, z, i, n, parent, size, first, labels, goals);
+    split_live(t, z, i, n);
     Answer::Done
 }
 

@@ -11,7 +11,7 @@ use Rattle.splits.proofs.run_on.Statement.{statement}
 use Rattle.splits.proofs.run_on.Tie as tie
 use Rattle.splits.proofs.run_on.Reads as reads
 use Rattle.splits.proofs.run_on.Lts as lts
-use Rattle.splits.proofs.split_in.Reads as split-in-reads
+use Rattle.splits.proofs.split_live.Reads as split-live-reads
 use Rattle.store.proofs.count.Reads as count-reads
 use Rattle.store.proofs.get.Reads as get-reads
 use Rattle.store.proofs.set2.Reads as set2-reads
@@ -27,8 +27,8 @@ returns c =
     let t-if1 = c .if1 in
     let c1 = c .before in
     let t-get = c1 .get in
-    let c9 = c1 .before .before .before .before .before .before .before .before in
-    let t-pre = c9 .pre in
+    let c4 = c1 .before .before .before in
+    let t-pre = c4 .pre in
     run-none (t-pre .0) (λ e. t-if1 .taken (t-get .ensures .0 ∙ e))
 
 get-requires-2 : tie.Need-get-requires-2
@@ -56,8 +56,8 @@ returns-2 c =
     let t-if1 = c9 .if1 in
     let c10 = c9 .before in
     let t-get = c10 .get in
-    let c18 = c10 .before .before .before .before .before .before .before .before in
-    let t-pre = c18 .pre in
+    let c13 = c10 .before .before .before in
+    let t-pre = c13 .pre in
     run-dead (t-pre .0) (t-get2 .result) (sym (t-get .ensures .0) ∙ t-if1 .left) (t-get2 .ensures .0) (cleared-steps (t-pre .0) (t-set2 .ensures)) (inl (omega (arith, t-get3 .ensures .0, t-if2 .taken)))
 
 count-requires : tie.Need-count-requires
@@ -68,8 +68,8 @@ count-requires c κs =
     let t-get3 = c2 .get3 in
     let c6 = c2 .before .before .before .before in
     let t-set2 = c6 .set2 in
-    let c19 = c6 .before .before .before .before .before .before .before .before .before .before .before .before .before in
-    let t-pre = c19 .pre in
+    let c14 = c6 .before .before .before .before .before .before .before .before in
+    let t-pre = c14 .pre in
     ((cleared-steps (t-pre .0) (t-set2 .ensures)) .does .sound .long, (let b = (cleared-steps (t-pre .0) (t-set2 .ensures)) .does .sound .good .islands-le in omega (arith, t-get3 .ensures .0, t-if2 .left)))
 
 same-length-3 : tie.Need-same-length-3
@@ -92,8 +92,8 @@ returns-3 c =
     let t-if1 = c12 .if1 in
     let c13 = c12 .before in
     let t-get = c13 .get in
-    let c21 = c13 .before .before .before .before .before .before .before .before in
-    let t-pre = c21 .pre in
+    let c16 = c13 .before .before .before in
+    let t-pre = c16 .pre in
     run-dead (t-pre .0) (t-get2 .result) (sym (t-get .ensures .0) ∙ t-if1 .left) (t-get2 .ensures .0) (cleared-steps (t-pre .0) (t-set2 .ensures)) (inr ((omega (arith, t-get3 .ensures .0, t-if2 .left)), sym (t-count .ensures .0) ∙ t-if3 .taken))
 
 cast-get : tie.Need-cast-get
@@ -113,8 +113,8 @@ get-requires-4 c κs =
     let t-get3 = c5 .get3 in
     let c9 = c5 .before .before .before .before in
     let t-set2 = c9 .set2 in
-    let c22 = c9 .before .before .before .before .before .before .before .before .before .before .before .before .before in
-    let t-pre = c22 .pre in
+    let c17 = c9 .before .before .before .before .before .before .before .before in
+    let t-pre = c17 .pre in
     ((cleared-steps (t-pre .0) (t-set2 .ensures)) .does .sound .long, (let b = (cleared-steps (t-pre .0) (t-set2 .ensures)) .does .sound .good .islands-le in omega (arith, t-get3 .ensures .0, t-if2 .left)))
 
 same-length-4 : tie.Need-same-length-4
@@ -141,79 +141,59 @@ returns-4 c =
     let t-if1 = c15 .if1 in
     let c16 = c15 .before in
     let t-get = c16 .get in
-    let c24 = c16 .before .before .before .before .before .before .before .before in
-    let t-pre = c24 .pre in
+    let c19 = c16 .before .before .before in
+    let t-pre = c19 .pre in
     run-asleep (t-pre .0) (t-get2 .result) (sym (t-get .ensures .0) ∙ t-if1 .left) (t-get2 .ensures .0) (cleared-steps (t-pre .0) (t-set2 .ensures)) (record { in-use = (omega (arith, t-get3 .ensures .0, t-if2 .left)); some = λ e. t-if3 .left (t-count .ensures .0 ∙ e) }) (sym (t-get4 .ensures .0) ∙ t-if4 .taken)
 
 cast-n : tie.Need-cast-n
 cast-n c = search needs
 
-split-in-requires : tie.Need-split-in-requires
-split-in-requires c κs =
-    let c9 = c .before .before .before .before .before .before .before .before .before in
-    let t-if3 = c9 .if3 in
-    let c10 = c9 .before in
-    let t-count = c10 .count in
-    let c12 = c10 .before .before in
-    let t-if2 = c12 .if2 in
-    let c13 = c12 .before in
-    let t-get3 = c13 .get3 in
-    let c17 = c13 .before .before .before .before in
-    let t-set2 = c17 .set2 in
-    let c30 = c17 .before .before .before .before .before .before .before .before .before .before .before .before .before in
-    let t-pre = c30 .pre in
-    ((cleared-steps (t-pre .0) (t-set2 .ensures)) .does .sound, (record { in-use = (omega (arith, t-get3 .ensures .0, t-if2 .left)); some = λ e. t-if3 .left (t-count .ensures .0 ∙ e) }), t-count .ensures .0, t-pre .1)
+split-live-requires : tie.Need-split-live-requires
+split-live-requires c κs =
+    let c4 = c .before .before .before .before in
+    let t-if3 = c4 .if3 in
+    let c5 = c4 .before in
+    let t-count = c5 .count in
+    let c7 = c5 .before .before in
+    let t-if2 = c7 .if2 in
+    let c8 = c7 .before in
+    let t-get3 = c8 .get3 in
+    let c12 = c8 .before .before .before .before in
+    let t-set2 = c12 .set2 in
+    let c20 = c12 .before .before .before .before .before .before .before .before in
+    let t-pre = c20 .pre in
+    (record { sound = (cleared-steps (t-pre .0) (t-set2 .ensures)) .does .sound; lives = (record { in-use = (omega (arith, t-get3 .ensures .0, t-if2 .left)); some = λ e. t-if3 .left (t-count .ensures .0 ∙ e) }); few = t-pre .1; bodies = t-count .ensures .0 })
 
 same-length-5 : tie.Need-same-length-5
-same-length-5 c =
-    let c12 = c .before .before .before .before .before .before .before .before .before .before .before .before in
-    let t-split-in = c12 .split-in in
-    let c43 = c12 .before .before .before .before .before .before .before .before .before .before .before .before .before .before .before .before .before .before .before .before .before .before .before .before .before .before .before .before .before .before .before in
-    let t-pre = c43 .pre in
-    t-split-in .ensures .does .sound .long ∙ sym (t-pre .0 .long)
-
-same-length-6 : tie.Need-same-length-6
-same-length-6 c = search needs
-
-same-length-7 : tie.Need-same-length-7
-same-length-7 c = search needs
-
-same-length-8 : tie.Need-same-length-8
-same-length-8 c = search needs
-
-same-length-9 : tie.Need-same-length-9
-same-length-9 c = search needs
-
-same-length-10 : tie.Need-same-length-10
-same-length-10 c = search needs
+same-length-5 c = search needs
 
 returns-5 : tie.Need-returns-5
 returns-5 c =
-    let c12 = c .before .before .before .before .before .before .before .before .before .before .before .before in
-    let t-split-in = c12 .split-in in
-    let c19 = c12 .before .before .before .before .before .before .before in
-    let t-if4 = c19 .if4 in
+    let c2 = c .before .before in
+    let t-split-live = c2 .split-live in
+    let c4 = c2 .before .before in
+    let t-if4 = c4 .if4 in
+    let c5 = c4 .before in
+    let t-get4 = c5 .get4 in
+    let c7 = c5 .before .before in
+    let t-if3 = c7 .if3 in
+    let c8 = c7 .before in
+    let t-count = c8 .count in
+    let c10 = c8 .before .before in
+    let t-if2 = c10 .if2 in
+    let c11 = c10 .before in
+    let t-get3 = c11 .get3 in
+    let c15 = c11 .before .before .before .before in
+    let t-set2 = c15 .set2 in
+    let c17 = c15 .before .before in
+    let t-get2 = c17 .get2 in
+    let c19 = c17 .before .before in
+    let t-if1 = c19 .if1 in
     let c20 = c19 .before in
-    let t-get4 = c20 .get4 in
-    let c22 = c20 .before .before in
-    let t-if3 = c22 .if3 in
-    let c23 = c22 .before in
-    let t-count = c23 .count in
-    let c25 = c23 .before .before in
-    let t-if2 = c25 .if2 in
-    let c26 = c25 .before in
-    let t-get3 = c26 .get3 in
-    let c30 = c26 .before .before .before .before in
-    let t-set2 = c30 .set2 in
-    let c32 = c30 .before .before in
-    let t-get2 = c32 .get2 in
-    let c34 = c32 .before .before in
-    let t-if1 = c34 .if1 in
-    let c35 = c34 .before in
-    let t-get = c35 .get in
-    let c43 = c35 .before .before .before .before .before .before .before .before in
-    let t-pre = c43 .pre in
-    run-done (t-pre .0) (t-get2 .result) (sym (t-get .ensures .0) ∙ t-if1 .left) (t-get2 .ensures .0) (cleared-steps (t-pre .0) (t-set2 .ensures)) (record { in-use = (omega (arith, t-get3 .ensures .0, t-if2 .left)); some = λ e. t-if3 .left (t-count .ensures .0 ∙ e) }) (λ e. t-if4 .left (t-get4 .ensures .0 ∙ e)) (t-split-in .ensures)
+    let t-get = c20 .get in
+    let c23 = c20 .before .before .before in
+    let t-pre = c23 .pre in
+    run-done (t-pre .0) (t-get2 .result) (sym (t-get .ensures .0) ∙ t-if1 .left) (t-get2 .ensures .0) (cleared-steps (t-pre .0) (t-set2 .ensures)) (record { in-use = (omega (arith, t-get3 .ensures .0, t-if2 .left)); some = λ e. t-if3 .left (t-count .ensures .0 ∙ e) }) (λ e. t-if4 .left (t-get4 .ensures .0 ∙ e)) (t-split-live .ensures)
 
 pub run-on-spec : {M : Type 1} → statement M
 run-on-spec =
@@ -237,11 +217,6 @@ run-on-spec =
     same-length-4
     returns-4
     cast-n
-    split-in-requires
+    split-live-requires
     same-length-5
-    same-length-6
-    same-length-7
-    same-length-8
-    same-length-9
-    same-length-10
     returns-5)

@@ -3,9 +3,9 @@ use mathlib.Core.Path.{_≡_, refl, sym, _∙_, ap, subst}
 use mathlib.Core.Logic.{_⊎_, _≢_, inl, inr}
 use Prim.Native.Nat.{ℕ, _+_, _-_, _*_, _≤_, _<_}
 use denote.Ref.{now}
+use lib.Seq.{length-take-le}
 use Rattle.tables.specs.Layout.{tables, extents}
 use Rattle.splits.specs.Part.{SplitReady, Scratch}
-use Rattle.splits.proofs.Part.{cut-le, cut-long}
 use borrow.Author.Needs.{needs}
 use Rattle.splits.proofs.split_in.Statement.{statement}
 use Rattle.splits.proofs.split_in.Tie as tie
@@ -14,81 +14,51 @@ use Rattle.splits.proofs.split_in.Lts as lts
 use Rattle.splits.proofs.split_island.Reads as split-island-reads
 
 slice-relend-prefix-split-island : tie.Need-slice-relend-prefix-split-island
-slice-relend-prefix-split-island c =
-    let c7 = c .before .before .before .before .before .before .before in
-    let t-args = c7 .args in
-    let t-pre = c7 .pre in
-    cut-le (t-args .i) (t-pre .0) (t-pre .1) (t-args .n) (now (t-args .parent)) (t-pre .2) (t-pre .3 .parent-long)
+slice-relend-prefix-split-island c = search needs
 
 slice-aggregate-split-island : tie.Need-slice-aggregate-split-island
 slice-aggregate-split-island c =
-    let c8 = c .before .before .before .before .before .before .before .before in
-    let t-args = c8 .args in
-    let t-pre = c8 .pre in
-    sym (cut-long (t-args .i) (t-pre .0) (t-pre .1) (t-args .n) (now (t-args .parent)) (t-pre .2) (t-pre .3 .parent-long))
+    let c7 = c .before .before .before .before .before .before .before in
+    let t-args = c7 .args in
+    let t-pre = c7 .pre in
+    sym (length-take-le (t-args .n) (now (t-args .parent)) (t-pre .1 .parent-long))
 
 slice-relend-prefix-split-island-2 : tie.Need-slice-relend-prefix-split-island-2
-slice-relend-prefix-split-island-2 c =
-    let c8 = c .before .before .before .before .before .before .before .before in
-    let t-args = c8 .args in
-    let t-pre = c8 .pre in
-    cut-le (t-args .i) (t-pre .0) (t-pre .1) (t-args .n) (now (t-args .size)) (t-pre .2) (t-pre .3 .size-long)
+slice-relend-prefix-split-island-2 c = search needs
 
 slice-aggregate-split-island-2 : tie.Need-slice-aggregate-split-island-2
 slice-aggregate-split-island-2 c =
-    let c9 = c .before .before .before .before .before .before .before .before .before in
-    let t-args = c9 .args in
-    let t-pre = c9 .pre in
-    sym (cut-long (t-args .i) (t-pre .0) (t-pre .1) (t-args .n) (now (t-args .size)) (t-pre .2) (t-pre .3 .size-long))
+    let c8 = c .before .before .before .before .before .before .before .before in
+    let t-args = c8 .args in
+    let t-pre = c8 .pre in
+    sym (length-take-le (t-args .n) (now (t-args .size)) (t-pre .1 .size-long))
 
 slice-relend-prefix-split-island-3 : tie.Need-slice-relend-prefix-split-island-3
-slice-relend-prefix-split-island-3 c =
-    let c9 = c .before .before .before .before .before .before .before .before .before in
-    let t-args = c9 .args in
-    let t-pre = c9 .pre in
-    cut-le (t-args .i) (t-pre .0) (t-pre .1) (t-args .n) (now (t-args .first)) (t-pre .2) (t-pre .3 .first-long)
+slice-relend-prefix-split-island-3 c = search needs
 
 slice-aggregate-split-island-3 : tie.Need-slice-aggregate-split-island-3
 slice-aggregate-split-island-3 c =
-    let c10 = c .before .before .before .before .before .before .before .before .before .before in
-    let t-args = c10 .args in
-    let t-pre = c10 .pre in
-    sym (cut-long (t-args .i) (t-pre .0) (t-pre .1) (t-args .n) (now (t-args .first)) (t-pre .2) (t-pre .3 .first-long))
+    let c9 = c .before .before .before .before .before .before .before .before .before in
+    let t-args = c9 .args in
+    let t-pre = c9 .pre in
+    sym (length-take-le (t-args .n) (now (t-args .first)) (t-pre .1 .first-long))
 
 slice-relend-prefix-split-island-4 : tie.Need-slice-relend-prefix-split-island-4
-slice-relend-prefix-split-island-4 c =
-    let c10 = c .before .before .before .before .before .before .before .before .before .before in
-    let t-args = c10 .args in
-    let t-pre = c10 .pre in
-    cut-le (t-args .i) (t-pre .0) (t-pre .1) (t-args .n) (now (t-args .labels)) (t-pre .2) (t-pre .3 .labels-long)
+slice-relend-prefix-split-island-4 c = search needs
 
 slice-aggregate-split-island-4 : tie.Need-slice-aggregate-split-island-4
 slice-aggregate-split-island-4 c =
-    let c11 = c .before .before .before .before .before .before .before .before .before .before .before in
-    let t-args = c11 .args in
-    let t-pre = c11 .pre in
-    sym (cut-long (t-args .i) (t-pre .0) (t-pre .1) (t-args .n) (now (t-args .labels)) (t-pre .2) (t-pre .3 .labels-long))
-
-slice-relend-prefix-split-island-5 : tie.Need-slice-relend-prefix-split-island-5
-slice-relend-prefix-split-island-5 c =
-    let c11 = c .before .before .before .before .before .before .before .before .before .before .before in
-    let t-args = c11 .args in
-    let t-pre = c11 .pre in
-    cut-le (t-args .i) (t-pre .0) (t-pre .1) (t-args .n) (now (t-args .goals)) (t-pre .2) (t-pre .3 .goals-long)
-
-slice-aggregate-split-island-5 : tie.Need-slice-aggregate-split-island-5
-slice-aggregate-split-island-5 c =
-    let c12 = c .before .before .before .before .before .before .before .before .before .before .before .before in
-    let t-args = c12 .args in
-    let t-pre = c12 .pre in
-    sym (cut-long (t-args .i) (t-pre .0) (t-pre .1) (t-args .n) (now (t-args .goals)) (t-pre .2) (t-pre .3 .goals-long))
+    let c10 = c .before .before .before .before .before .before .before .before .before .before in
+    let t-args = c10 .args in
+    let t-pre = c10 .pre in
+    sym (length-take-le (t-args .n) (now (t-args .labels)) (t-pre .1 .labels-long))
 
 split-island-requires : tie.Need-split-island-requires
 split-island-requires c κs =
-    let c12 = c .before .before .before .before .before .before .before .before .before .before .before .before in
-    let t-args = c12 .args in
-    let t-pre = c12 .pre in
-    (record { sound = t-pre .0; lives = t-pre .1; few = t-pre .3 .few; parent-long = cut-long (t-args .i) (t-pre .0) (t-pre .1) (t-args .n) (now (t-args .parent)) (t-pre .2) (t-pre .3 .parent-long) ∙ t-pre .2; size-long = cut-long (t-args .i) (t-pre .0) (t-pre .1) (t-args .n) (now (t-args .size)) (t-pre .2) (t-pre .3 .size-long) ∙ t-pre .2; first-long = cut-long (t-args .i) (t-pre .0) (t-pre .1) (t-args .n) (now (t-args .first)) (t-pre .2) (t-pre .3 .first-long) ∙ t-pre .2; labels-long = cut-long (t-args .i) (t-pre .0) (t-pre .1) (t-args .n) (now (t-args .labels)) (t-pre .2) (t-pre .3 .labels-long) ∙ t-pre .2; goals-long = cut-long (t-args .i) (t-pre .0) (t-pre .1) (t-args .n) (now (t-args .goals)) (t-pre .2) (t-pre .3 .goals-long) ∙ t-pre .2 })
+    let c10 = c .before .before .before .before .before .before .before .before .before .before in
+    let t-args = c10 .args in
+    let t-pre = c10 .pre in
+    (record { sound = t-pre .0 .sound; lives = t-pre .0 .lives; few = t-pre .0 .few; parent-long = length-take-le (t-args .n) (now (t-args .parent)) (t-pre .1 .parent-long) ∙ t-pre .0 .bodies; size-long = length-take-le (t-args .n) (now (t-args .size)) (t-pre .1 .size-long) ∙ t-pre .0 .bodies; first-long = length-take-le (t-args .n) (now (t-args .first)) (t-pre .1 .first-long) ∙ t-pre .0 .bodies; labels-long = length-take-le (t-args .n) (now (t-args .labels)) (t-pre .1 .labels-long) ∙ t-pre .0 .bodies })
 
 same-length : tie.Need-same-length
 same-length c = search needs
@@ -105,9 +75,6 @@ same-length-4 c = search needs
 same-length-5 : tie.Need-same-length-5
 same-length-5 c = search needs
 
-same-length-6 : tie.Need-same-length-6
-same-length-6 c = search needs
-
 returns : tie.Need-returns
 returns c = search needs
 
@@ -123,13 +90,10 @@ split-in-spec =
     slice-aggregate-split-island-3
     slice-relend-prefix-split-island-4
     slice-aggregate-split-island-4
-    slice-relend-prefix-split-island-5
-    slice-aggregate-split-island-5
     split-island-requires
     same-length
     same-length-2
     same-length-3
     same-length-4
     same-length-5
-    same-length-6
     returns)

@@ -46,18 +46,18 @@ returns c =
     let t-if1 = c4 .if1 in
     let c14 = c4 .before .before .before .before .before .before .before .before .before .before in
     let t-label-island = c14 .label-island in
-    let c26 = c14 .before .before .before .before .before .before .before .before .before .before .before .before in
-    let t-args = c26 .args in
+    let c25 = c14 .before .before .before .before .before .before .before .before .before .before .before in
+    let t-args = c25 .args in
     split-whole (t-args .i) (t-label-island .result .components) (t-label-island .ensures .components-are) (t-if1 .taken) (t-check-island .ensures)
 
 part-island-requires : tie.Need-part-island-requires
 part-island-requires c κs =
     let c13 = c .before .before .before .before .before .before .before .before .before .before .before .before .before in
     let t-label-island = c13 .label-island in
-    let c25 = c13 .before .before .before .before .before .before .before .before .before .before .before .before in
-    let t-args = c25 .args in
-    let t-pre = c25 .pre in
-    (record { sound = t-pre .sound; lives = t-pre .lives; labels-are = t-label-island .ensures .labels-are; keep-is = t-label-island .ensures .keep-is ∙ ap keepLabel (sym (t-label-island .ensures .labels-are)); inside = t-label-island .ensures .inside; goals-long = t-pre .goals-long ∙ sym (labels-count (t-args .i) (t-pre .sound) (t-pre .lives) (t-label-island .ensures .labels-are)) })
+    let c24 = c13 .before .before .before .before .before .before .before .before .before .before .before in
+    let t-args = c24 .args in
+    let t-pre = c24 .pre in
+    (record { sound = t-pre .sound; lives = t-pre .lives; labels-are = t-label-island .ensures .labels-are; keep-is = t-label-island .ensures .keep-is ∙ ap keepLabel (sym (t-label-island .ensures .labels-are)); inside = t-label-island .ensures .inside; goals-long = t-label-island .kept .1 .1 .1 .1 .1 .0 ∙ t-pre .first-long ∙ sym (labels-count (t-args .i) (t-pre .sound) (t-pre .lives) (t-label-island .ensures .labels-are)) })
 
 check-island-requires-2 : tie.Need-check-island-requires-2
 check-island-requires-2 c κs = search needs
@@ -66,8 +66,8 @@ same-length-6 : tie.Need-same-length-6
 same-length-6 c =
     let c2 = c .before .before in
     let t-check-island2 = c2 .check-island2 in
-    let c34 = c2 .before .before .before .before .before .before .before .before .before .before .before .before .before .before .before .before .before .before .before .before .before .before .before .before .before .before .before .before .before .before .before .before in
-    let t-pre = c34 .pre in
+    let c33 = c2 .before .before .before .before .before .before .before .before .before .before .before .before .before .before .before .before .before .before .before .before .before .before .before .before .before .before .before .before .before .before .before in
+    let t-pre = c33 .pre in
     t-check-island2 .ensures .does .sound .long ∙ sym (t-pre .sound .long)
 
 same-length-7 : tie.Need-same-length-7
@@ -77,13 +77,15 @@ same-length-8 : tie.Need-same-length-8
 same-length-8 c = search needs
 
 same-length-9 : tie.Need-same-length-9
-same-length-9 c = search needs
+same-length-9 c =
+    let c8 = c .before .before .before .before .before .before .before .before in
+    let t-part-island = c8 .part-island in
+    let c22 = c8 .before .before .before .before .before .before .before .before .before .before .before .before .before .before in
+    let t-label-island = c22 .label-island in
+    t-part-island .kept .1 .1 .1 .1 .1 .0 ∙ t-label-island .kept .1 .1 .1 .1 .1 .0
 
 same-length-10 : tie.Need-same-length-10
 same-length-10 c = search needs
-
-same-length-11 : tie.Need-same-length-11
-same-length-11 c = search needs
 
 returns-2 : tie.Need-returns-2
 returns-2 c =
@@ -95,8 +97,8 @@ returns-2 c =
     let t-if1 = c12 .if1 in
     let c22 = c12 .before .before .before .before .before .before .before .before .before .before in
     let t-label-island = c22 .label-island in
-    let c34 = c22 .before .before .before .before .before .before .before .before .before .before .before .before in
-    let t-args = c34 .args in
+    let c33 = c22 .before .before .before .before .before .before .before .before .before .before .before in
+    let t-args = c33 .args in
     split-parts (t-args .i) (t-label-island .result .components) (t-label-island .ensures .components-are) (t-if1 .left) (t-part-island .ensures) (t-check-island2 .ensures)
 
 pub split-island-spec : {M : Type 1} → statement M
@@ -118,5 +120,4 @@ split-island-spec =
     same-length-8
     same-length-9
     same-length-10
-    same-length-11
     returns-2)

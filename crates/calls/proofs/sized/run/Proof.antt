@@ -19,63 +19,37 @@ returns c =
     let t-if1 = c .if1 in
     let c1 = c .before in
     let t-sound = c1 .sound in
-    let c9 = c1 .before .before .before .before .before .before .before .before in
-    let t-args = c9 .args in
+    let c4 = c1 .before .before .before in
+    let t-args = c4 .args in
     call-no (t-args .z) _ (now (t-args .t)) _ (t-sound .ensures) (t-if1 .taken)
 
 run-on-requires : tie.Need-run-on-requires
 run-on-requires c κs =
-    let c6 = c .before .before .before .before .before .before in
-    let t-if1 = c6 .if1 in
-    let c7 = c6 .before in
-    let t-sound = c7 .sound in
-    let c15 = c7 .before .before .before .before .before .before .before .before in
-    let t-args = c15 .args in
-    let t-pre = c15 .pre in
+    let c1 = c .before in
+    let t-if1 = c1 .if1 in
+    let c2 = c1 .before in
+    let t-sound = c2 .sound in
+    let c5 = c2 .before .before .before in
+    let t-args = c5 .args in
+    let t-pre = c5 .pre in
     (sound-is (t-args .z) (now (t-args .t)) _ (t-sound .ensures) (t-if1 .left), t-pre)
 
 same-length-2 : tie.Need-same-length-2
 same-length-2 c = search needs
 
-same-length-3 : tie.Need-same-length-3
-same-length-3 c = search needs
-
-same-length-4 : tie.Need-same-length-4
-same-length-4 c = search needs
-
-same-length-5 : tie.Need-same-length-5
-same-length-5 c = search needs
-
-same-length-6 : tie.Need-same-length-6
-same-length-6 c = search needs
-
-same-length-7 : tie.Need-same-length-7
-same-length-7 c = search needs
-
 returns-2 : tie.Need-returns-2
 returns-2 c =
-    let c12 = c .before .before .before .before .before .before .before .before .before .before .before .before in
-    let t-run-on = c12 .run-on in
-    let c19 = c12 .before .before .before .before .before .before .before in
-    let t-if1 = c19 .if1 in
-    let c20 = c19 .before in
-    let t-sound = c20 .sound in
-    let c28 = c20 .before .before .before .before .before .before .before .before in
-    let t-args = c28 .args in
+    let c2 = c .before .before in
+    let t-run-on = c2 .run-on in
+    let c4 = c2 .before .before in
+    let t-if1 = c4 .if1 in
+    let c5 = c4 .before in
+    let t-sound = c5 .sound in
+    let c8 = c5 .before .before .before in
+    let t-args = c8 .args in
     call-yes (t-args .z) _ (now (t-args .t)) _ (t-sound .ensures) (t-if1 .left) (t-run-on .ensures)
 
 pub run-spec : {M : Type 1} → statement M
 run-spec =
     tie.close
-    (tie.spec
-    sound-requires
-    same-length
-    returns
-    run-on-requires
-    same-length-2
-    same-length-3
-    same-length-4
-    same-length-5
-    same-length-6
-    same-length-7
-    returns-2)
+    (tie.spec sound-requires same-length returns run-on-requires same-length-2 returns-2)

@@ -7,6 +7,7 @@
 //! ratio is written for an effect that is less than two errors.
 
 mod script;
+mod split;
 
 use std::collections::BTreeMap;
 use std::env;
@@ -19,7 +20,11 @@ use oracle::engine::{Engine, Reply};
 use script::Maker;
 
 fn main() {
-    let is_quick = env::args().nth(1).is_some();
+    let words: Vec<String> = env::args().skip(1).collect();
+    if words.first().is_some_and(|word| word == "split") {
+        return split::run(&words[1..]);
+    }
+    let is_quick = !words.is_empty();
     let shrink = if is_quick { 10 } else { 1 };
     let clock = clock();
     println!("Machine: {}. The clock takes {clock:.0} ns, which is taken off.\n", machine());

@@ -298,3 +298,26 @@ pub fn big_pile(bodies: u32, turns: u32) -> Maker {
     }
     maker
 }
+
+/// One pile with so many contacts, between near bodies; with `is_cut` those between its two halves are unlinked and the resolver has run,
+/// so that a split has two parts to find. Gives the island's number too.
+pub fn one_island(bodies: u32, links: u32, is_cut: bool) -> (Maker, u32) {
+    let mut maker = Maker::new(1);
+    for _ in 0..bodies {
+        maker.body();
+    }
+    let near = (1..bodies).flat_map(|apart| (0..bodies - apart).map(move |first| (first, first + apart)));
+    for (first, second) in near.take(links as usize) {
+        maker.touch(first, second);
+    }
+    if is_cut {
+        let half = bodies / 2;
+        let across = |one: &Contact| one.first < half && one.second >= half;
+        for contact in maker.contacts.clone().into_iter().filter(across) {
+            maker.unlink(contact);
+        }
+        maker.say("resolve", "resolve".into());
+    }
+    let island = maker.island_of(0);
+    (maker, island)
+}

@@ -3,12 +3,12 @@ use mathlib.Core.Path.{_≡_, refl, sym, _∙_, ap}
 use mathlib.Core.Logic.{_≢_}
 use mathlib.Core.Bool.{true, false, false≢true}
 use mathlib.Core.List.{List, [], _∷_}
-use Prim.Native.Nat.{ℕ, _+_, _*_, _<_}
+use Prim.Native.Nat.{ℕ, _*_, _<_}
 use native.Mathlib.Omega.{arith}
 use borrow.Author.Tests.{ne-eqb}
 use lib.ListN.{length, getD, set}
 use Rattle.lists.specs.Rules.{none, listOf}
-use Rattle.lists.specs.Word.{writes, miss}
+use Rattle.lists.specs.Word.{writes}
 use Rattle.lists.specs.Table.{view, removed, pushed}
 use Rattle.lists.proofs.Laws.{held}
 use Rattle.lists.proofs.Order.{length-list, list-of}
@@ -20,10 +20,10 @@ use Rattle.state.specs.Plain.{more}
 use Rattle.state.specs.World.{Island, World, islandAt, named, islandOf, body-island}
 use Rattle.state.specs.Membership.{left, remove}
 use Rattle.state.specs.Bodies.{island}
-use Rattle.tables.specs.Layout.{Tables, tables, total, Extents, extents, headAt, headLong, membersAt, membersLong, rowsAt, rowsLong, freedAt, freedLong, members-in, contacts-in, joints-in}
+use Rattle.tables.specs.Layout.{Tables, tables, total, Extents, extents, membersAt, membersLong, rowsAt, rowsLong, freedAt, freedLong, members-in, contacts-in, joints-in}
 use Rattle.tables.specs.Decode.{worldOf}
 use Rattle.tables.specs.Sound.{Sound}
-use Rattle.tables.proofs.Puts.{put-head, put-members, put-rows, put-freed}
+use Rattle.tables.proofs.Puts.{put-members, put-rows, put-freed}
 use Rattle.tables.proofs.Chains.{taken}
 use Rattle.tables.proofs.Frame.{larger-refl, larger-then}
 use Rattle.tables.proofs.Unique.{islands-is}
@@ -33,7 +33,7 @@ use Rattle.steps.specs.Leaves.{freeing, Left, Unpended, Removes}
 use Rattle.steps.proofs.Then.{refused, does-as}
 use Rattle.steps.proofs.Names.{island-at, home-is}
 use Rattle.steps.proofs.Stays.{stays-extents}
-use Rattle.steps.proofs.Leave.{home-lt, left-some, left-last, pending-cleared, pending-kept}
+use Rattle.steps.proofs.Leave.{home-lt, left-some, left-last}
 use Rattle.steps.proofs.Emptied.{removed-last, remove-no, remove-none, remove-some}
 
 -- ---- the only element of a list
@@ -103,20 +103,6 @@ module _ {Z : Sizes} {t : List ℕ} (s i : ℕ) (S : Sound Z t) (sl : s < extent
             ∙ ap (λ (W : Tables). extents W .slots) (put-members Z t t1 _ (S .long) P);
       }
 
--- ---- clear_pending_split_of
-pub unpended : {Z : Sizes} {t t1 : List ℕ} (i : ℕ) → Sound Z t → getD (tables Z t .head) 5 0 ≡ 1 → getD (tables Z t .head) 6 0 ≡ i
-    → Put (headAt Z) (headLong Z) t t1 (writes (tables Z t .head) ((5, 0) ∷ (5 + 1, 0) ∷ [])) → Unpended Z i t t1
-unpended {Z} {t} {t1} i S p q P =
-    let e = put-head Z t t1 _ (S .long) P in
-    record {
-      steps = pending-cleared i S p q P;
-      members = ap (λ (W : Tables). W .members) e;
-      slots = ap (λ (W : Tables). extents W .slots) e ∙ miss (tables Z t .head) ((5, 0) ∷ (5 + 1, 0) ∷ []) 0 (omega arith);
-    }
-
-pub not-pending : {Z : Sizes} {t : List ℕ} (i : ℕ) → Sound Z t → (getD (tables Z t .head) 5 0 ≡ 1 → getD (tables Z t .head) 6 0 ≢ i) → Unpended Z i t t
-not-pending i S d = record { steps = pending-kept i S d; members = refl; slots = refl }
-
 -- ---- remove_only: the links first
 module _ {Z : Sizes} {t t1 t2 : List ℕ} {i : ℕ} (A : Cleared Z i t t1) (B : JointsCleared Z i t1 t2) where
   same-extents : extents (tables Z t2) ≡ extents (tables Z t)
@@ -148,8 +134,8 @@ module _ {Z : Sizes} {t t1 t2 : List ℕ} {i : ℕ} (A : Cleared Z i t t1) (B : 
               does = removed-last i (rw (islands-is Z t) il) (A .steps) (B .steps) (C .steps) (D .steps);
               larger = larger-then (A .steps .larger) (larger-then (B .steps .larger) (larger-then (C .steps .larger) (D .steps .larger)));
             };
-        gone = ap (λ (x : List ℕ). view x 0 (4 * Z .slots) .home s) (D .members) ∙ C .gone;
-        slots = D .slots ∙ C .slots ∙ ap (λ (X : Extents). X .slots) same-extents;
+        gone = ap (λ (W : Tables). view (W .members) 0 (4 * Z .slots) .home s) (D .rest) ∙ C .gone;
+        slots = ap (λ (X : Extents). X .slots) (D .extents-same) ∙ C .slots ∙ ap (λ (X : Extents). X .slots) same-extents;
       }
 
 -- ---- remove_on

@@ -1,7 +1,6 @@
 ghost use mathlib.Core.Path.{_≡_};
 ghost use mathlib.Core.Logic.{_≢_};
-ghost use Prim.Native.Nat.{ℕ, _+_, _*_, _<_, _≤_};
-ghost use lib.ListN.{length, getD};
+ghost use Prim.Native.Nat.{_+_, _*_, _<_};
 ghost use Rattle.lists.specs.Rules.{none};
 ghost use Rattle.state.specs.Plain.{more};
 ghost use Rattle.state.specs.Bodies.{retire, island};
@@ -12,7 +11,7 @@ ghost use Rattle.tables.specs.Sound.{Sound};
 ghost use Rattle.tables.specs.Does.{Does};
 ghost use Rattle.steps.specs.Steps.{handle, leave, leave-last};
 ghost use Rattle.steps.specs.Drops.{Dropped, Cleared, JointDropped, JointsCleared};
-ghost use Rattle.steps.specs.Leaves.{freeing, Left, Unpended, Removes};
+ghost use Rattle.steps.specs.Leaves.{freeing, Left, Removes};
 use kinds::Answer;
 use kinds::Island;
 use kinds::IslandAnswer;
@@ -109,22 +108,6 @@ pub fn leave_last(t: &mut [u32], z: Sizes, s: u32, i: u32)
     store::push(t, z, Table::Freed, 0, i);
 }
 
-// A pending split of the island i is cleared.
-pub fn clear_pending_split_of(t: &mut [u32], z: Sizes, i: u32)
-    requires { ⌜ Sound z (now t) ⌝ }
-    ensures { λ _. ⌜ Unpended z i (now (t .entry)) (now (t .exit)) ⌝ }
-{
-    let f = store::get(t, z, Table::Head, 5);
-    if f != 1 {
-        return;
-    }
-    let k = store::get(t, z, Table::Head, 6);
-    if k != i {
-        return;
-    }
-    store::set2(t, z, Table::Head, 5, 0, 0);
-}
-
 // The island i, whose only body is in slot s, drops its links and is freed.
 fn remove_only(t: &mut [u32], z: Sizes, s: u32, i: u32)
     requires { ⌜ Sound z (now t) × (s < extents (tables z (now t)) .slots) × (members-in z (tables z (now t)) .home s ≡ i) × (i ≢ none) × (members-in z (tables z (now t)) .count i ≡ 1) ⌝ }
@@ -133,7 +116,7 @@ fn remove_only(t: &mut [u32], z: Sizes, s: u32, i: u32)
     drop_contacts(t, z, i);
     drop_joints(t, z, i);
     leave_last(t, z, s, i);
-    clear_pending_split_of(t, z, i);
+    numbers::clear_pending_split_of(t, z, i);
 }
 
 // remove, on sound tables.

@@ -5,8 +5,7 @@ ghost use lib.ListN.{length};
 ghost use Rattle.frame.specs.Part.{Put};
 ghost use Rattle.state.specs.Links.{addCounts};
 ghost use Rattle.tables.specs.Layout.{tables, total, rowsAt, rowsLong};
-ghost use Rattle.tables.specs.Sound.{Sound};
-ghost use Rattle.steps.specs.Merging.{bothAsleep, rowsMixed, TwoLive, Forgot, Absorbed, MergeDone};
+ghost use Rattle.steps.specs.Merging.{bothAsleep, rowsMixed, TwoLive, Absorbed, MergeDone};
 use kinds::Sizes;
 use tables::Table;
 
@@ -54,22 +53,6 @@ fn mix_rows(t: &mut [u32], z: Sizes, big: u32, small: u32)
     store::set3(t, z, Table::Rows, s, 0, 0, 0);
 }
 
-// A pending split of the island i is cleared.
-fn clear_pending(t: &mut [u32], z: Sizes, i: u32)
-    requires { ⌜ Sound z (now t) ⌝ }
-    ensures { λ _. ⌜ Forgot z i (now (t .entry)) (now (t .exit)) ⌝ }
-{
-    let p = store::get(t, z, Table::Head, 5);
-    if p != 1 {
-        return;
-    }
-    let n = store::get(t, z, Table::Head, 6);
-    if n != i {
-        return;
-    }
-    store::set2(t, z, Table::Head, 5, 0, 0);
-}
-
 // The island small goes into big: its links and bodies are put behind big's, in order; counts add, sleeping only if both slept, and its denial is lost. Its number is freed, and a pending split of it is cleared. The work is that of small.
 pub fn absorb(t: &mut [u32], z: Sizes, big: u32, small: u32)
     requires { ⌜ TwoLive z big small (now t) × (big ≢ small) ⌝ }
@@ -80,7 +63,7 @@ pub fn absorb(t: &mut [u32], z: Sizes, big: u32, small: u32)
     store::splice(t, z, Table::Members, big, small);
     mix_rows(t, z, big, small);
     store::push(t, z, Table::Freed, 0, small);
-    clear_pending(t, z, small);
+    numbers::clear_pending_split_of(t, z, small);
 }
 
 // merge_islands: more bodies survives; equal, the first. The answer is the island that is left.

@@ -1,60 +1,29 @@
 -- A live island is marked asleep, or wakes.
-use mathlib.Core.Path.{_≡_, refl, sym, _∙_, ap}
-use mathlib.Core.Logic.{_≢_}
-use mathlib.Core.Bool.{Bool, true, false, not, false≢true}
+use mathlib.Core.Path.{_≡_, refl, _∙_, ap}
+use mathlib.Core.Bool.{Bool, true, false}
 use mathlib.Core.List.{List}
-use Prim.Native.Nat.{ℕ, _+_, _*_, _≤_, _<_}
+use Prim.Native.Nat.{ℕ, _+_, _*_, _<_}
 use native.Mathlib.Omega.{arith}
-use borrow.Author.Tests.{eq-eqb, ne-eqb}
-use lib.Dec.{eqb}
 use lib.ListN.{length, getD, set}
 use lib.Seq.{getD-set-same, getD-set-other}
-use Rattle.lists.proofs.Order.{length-list}
 use Rattle.frame.specs.Part.{Put}
 use Rattle.kinds.specs.declared.Sizes.{Sizes}
 use Rattle.kinds.specs.declared.Answer.the-variants.{Done, NoIsland}
-use Rattle.state.specs.World.{Island, noIsland, islandAt, live}
+use Rattle.state.specs.World.{live}
 use Rattle.state.specs.Scan.{sleeping-set, mark-island-sleeping, wake-island}
-use Rattle.tables.specs.Layout.{tables, rowsAt, rowsLong, extents, members-in}
-use Rattle.tables.specs.Decode.{bitOf, flag, islandIn, worldOf}
+use Rattle.tables.specs.Layout.{tables, rowsAt, rowsLong}
+use Rattle.tables.specs.Decode.{bitOf, flag, worldOf}
 use Rattle.tables.specs.Sound.{Sound}
 use Rattle.tables.specs.Does.{Does}
 use Rattle.tables.proofs.Puts.{sized}
-use Rattle.tables.proofs.Tab.{length-tabulate, getD-beyond}
 use Rattle.steps.specs.Steps.{Steps, clear-pending}
 use Rattle.steps.specs.Lives.{Lives}
 use Rattle.steps.proofs.Then.{refused, does-as, does-then}
 use Rattle.steps.proofs.Good.{island-is}
-use Rattle.steps.proofs.Names.{island-at}
 use Rattle.steps.proofs.Isle.{set-aside}
 use Rattle.steps.proofs.Row.{row-steps}
-use Rattle.scans.specs.Scanning.{rest-as, LiveIs}
+use Rattle.scans.specs.Scanning.{rest-as}
 use Rattle.scans.proofs.Lists.{flag-bit, bit-le}
-
--- ---- is_live
-module _ {Z : Sizes} {t : List ℕ} (i : ℕ) (S : Sound Z t) where
-  pub live-far : extents (tables Z t) .islands ≤ i → LiveIs Z t i false
-  unfolding live worldOf
-  live-far l =
-      record {
-        says =
-            sym
-            (ap (λ (a : Island). not (eqb (length (a .bodies)) 0))
-            (getD-beyond (worldOf Z t .islands) noIsland i (rw (length-tabulate (extents (tables Z t) .islands) (islandIn Z (tables Z t))) l)));
-        lives = λ e. absurd (false≢true e);
-      }
-
-  bodies-are : i < extents (tables Z t) .islands → length (islandAt (worldOf Z t) i .bodies) ≡ members-in Z (tables Z t) .count i
-  unfolding worldOf
-  bodies-are l = ap (λ (a : Island). length (a .bodies)) (island-at Z (extents (tables Z t)) (tables Z t) i l) ∙ length-list (S .good .members-wf .rules) i l
-
-  pub live-empty : i < extents (tables Z t) .islands → members-in Z (tables Z t) .count i ≡ 0 → LiveIs Z t i false
-  unfolding live
-  live-empty l c = record { says = sym (ap not (eq-eqb _ 0 (bodies-are l ∙ c))); lives = λ e. absurd (false≢true e) }
-
-  pub live-some : i < extents (tables Z t) .islands → members-in Z (tables Z t) .count i ≢ 0 → LiveIs Z t i true
-  unfolding live
-  live-some l c = record { says = sym (ap not (ne-eqb _ 0 (λ e. c (sym (bodies-are l) ∙ e)))); lives = λ e. record { in-use = l; some = c } }
 
 -- ---- rest
 pub rested : {Z : Sizes} {t t1 : List ℕ} (i : ℕ) (z : Bool) → Sound Z t → Lives Z t i → Put (rowsAt Z) (rowsLong Z) t t1 (set (tables Z t .rows) (3 * i + 2) (bitOf z)) → Steps Z (rest-as i z) t t1

@@ -9,13 +9,12 @@ use Rattle.lists.specs.Rules.{none, walk}
 use Rattle.kinds.specs.declared.Sizes.{Sizes}
 use Rattle.kinds.specs.declared.Scan.{Scan}
 use Rattle.state.specs.Plain.{dropLast}
-use Rattle.state.specs.World.{World, Step, done, scan-set, islandAt, island-set, live}
+use Rattle.state.specs.World.{World, Step, done, scan-set, islandAt, island-set}
 use Rattle.state.specs.Scan.{observed, sleepable, sleepables, sleeping-set}
 use Rattle.tables.specs.Layout.{tables, extents, scan-in}
 use Rattle.tables.specs.Decode.{flag, observedAt, worldOf}
 use Rattle.tables.specs.Sound.{Sound}
 use Rattle.steps.specs.Steps.{Steps}
-use Rattle.steps.specs.Lives.{Lives}
 
 -- the island that was observed last is forgotten
 unfoldable pub forget-last : World → Step
@@ -36,11 +35,6 @@ noting i e w = done (scan-set w (w .sleep-scan-stamp) (w .scanning) (observed i 
 -- the island i sleeps, or not
 unfoldable pub rest-as : ℕ → Bool → World → Step
 rest-as i z w = done (island-set w i (sleeping-set (islandAt w i) z))
-
--- r says whether the island i is live
-pub record LiveIs (Z : Sizes) (t : List ℕ) (i : ℕ) (r : Bool) : Type 0 where
-  pub says : r ≡ live (worldOf Z t) i
-  pub lives : r ≡ true → Lives Z t i
 
 -- s is the scan that the tables hold
 pub record ScanIs (Z : Sizes) (t : List ℕ) (s : Scan) : Type 0 where

@@ -11,7 +11,7 @@ ghost use Rattle.tables.specs.Sound.{Sound};
 ghost use Rattle.tables.specs.Does.{Does};
 ghost use Rattle.steps.specs.Steps.{Steps};
 ghost use Rattle.steps.specs.Lives.{Lives};
-ghost use Rattle.scans.specs.Scanning.{stamped, noting, rest-as, LiveIs, ScanIs, Fitting, Forgot, Forgotten, Unheard, Heard, Wrote, restful};
+ghost use Rattle.scans.specs.Scanning.{stamped, noting, rest-as, ScanIs, Fitting, Forgot, Forgotten, Unheard, Heard, Wrote, restful};
 ghost use Rattle.scans.specs.Listing.{Finishes};
 use kinds::Answer;
 use kinds::Listed;
@@ -19,22 +19,6 @@ use kinds::NONE;
 use kinds::Scan;
 use kinds::Sizes;
 use tables::Table;
-
-// Is the number that of a live island?
-pub fn is_live(t: &[u32], z: Sizes, i: u32) -> bool
-    requires { ⌜ Sound z (now t) ⌝ }
-    ensures { λ r. ⌜ LiveIs z (now (t .entry)) i r ⌝ }
-{
-    let m = store::get(t, z, Table::Head, 1);
-    if i >= m {
-        return false;
-    }
-    let c = store::count(t, z, Table::Members, i);
-    if c == 0 {
-        return false;
-    }
-    true
-}
 
 // ---- the scan
 
@@ -129,7 +113,7 @@ pub fn observe_on(t: &mut [u32], z: Sizes, i: u32, eligible: bool) -> Answer
     requires { ⌜ Sound z (now t) ⌝ }
     ensures { λ r. ⌜ Does z (observe-body-for-sleep i eligible) (now (t .entry)) r (now (t .exit)) ⌝ }
 {
-    if !is_live(t, z, i) {
+    if !numbers::is_live(t, z, i) {
         return Answer::NoIsland;
     }
     let open = store::get(t, z, Table::Head, 8);
@@ -265,11 +249,11 @@ pub fn sleep_on(t: &mut [u32], z: Sizes, i: u32) -> Answer
     requires { ⌜ Sound z (now t) ⌝ }
     ensures { λ r. ⌜ Does z (mark-island-sleeping i) (now (t .entry)) r (now (t .exit)) ⌝ }
 {
-    if !is_live(t, z, i) {
+    if !numbers::is_live(t, z, i) {
         return Answer::NoIsland;
     }
     rest(t, z, i, true);
-    leaves::clear_pending_split_of(t, z, i);
+    numbers::clear_pending_split_of(t, z, i);
     Answer::Done
 }
 
@@ -278,7 +262,7 @@ pub fn wake_on(t: &mut [u32], z: Sizes, i: u32) -> Answer
     requires { ⌜ Sound z (now t) ⌝ }
     ensures { λ r. ⌜ Does z (wake-island i) (now (t .entry)) r (now (t .exit)) ⌝ }
 {
-    if !is_live(t, z, i) {
+    if !numbers::is_live(t, z, i) {
         return Answer::NoIsland;
     }
     rest(t, z, i, false);

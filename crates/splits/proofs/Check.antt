@@ -1,34 +1,29 @@
 -- The island is checked: count 0, denial set; the split is that, after the parts where there are parts; the waiting split; who may bid.
-use mathlib.Core.Path.{_≡_, refl, sym, _∙_, ap, subst}
+use mathlib.Core.Path.{_≡_, refl, sym, _∙_, ap}
 use mathlib.Core.Logic.{_⊎_, inl, inr, _≢_, ⊎-elim}
-use mathlib.Core.Bool.{Bool, true, false, not, _&&_}
-use mathlib.Core.Option.{Option, none as nothing, some}
+use mathlib.Core.Bool.{true, false, not, _&&_}
+use mathlib.Core.Option.{none as nothing, some}
 use mathlib.Core.List.{List, [], _∷_}
 use Prim.Native.Nat.{ℕ, _+_, _-_, _*_, _≤_, _<_}
 use native.Mathlib.Omega.{arith}
 use lib.ListN.{length, getD}
-use lib.Dec.{eqb, ltb, leb}
+use lib.Dec.{eqb}
 use borrow.Author.Tests.{eq-eqb, ne-eqb, lt-ltb, le-ltb, le-leb, lt-leb}
-use Rattle.lists.specs.Rules.{none, listOf}
 use Rattle.lists.specs.Table.{pick}
 use Rattle.lists.specs.Word.{writes, miss, hit}
-use Rattle.lists.proofs.Laws.{either}
-use Rattle.lists.proofs.Order.{length-list}
 use Rattle.frame.specs.Part.{Put}
 use Rattle.kinds.specs.declared.Sizes.{Sizes}
 use Rattle.kinds.specs.declared.Answer.the-variants.{Done, Nothing, NoIsland}
 use Rattle.state.specs.Plain.{top}
-use Rattle.state.specs.World.{Island, noIsland, World, Step, done, refuse, split-set, islandAt, island-set, live}
+use Rattle.state.specs.World.{Island, World, Step, done, refuse, split-set, islandAt, island-set, live}
 use Rattle.state.specs.Connected.{components}
-use Rattle.state.specs.Split.{labelsOf, parted, denial, checked, split, split-island-now, schedule-split, runSplit, run-pending-split, denied, split-allowed}
-use Rattle.tables.specs.Layout.{Tables, tables, headAt, headLong, rowsAt, rowsLong, rows-put, Extents, extents, members-in}
-use Rattle.tables.specs.Decode.{flag, pending, islandIn, decode, worldOf}
+use Rattle.state.specs.Split.{labelsOf, denial, checked, split, split-island-now, schedule-split, run-pending-split, denied, split-allowed}
+use Rattle.tables.specs.Layout.{tables, headAt, headLong, rowsAt, rowsLong, extents}
+use Rattle.tables.specs.Decode.{flag, islandIn, worldOf}
 use Rattle.tables.specs.Sound.{Sound}
 use Rattle.tables.specs.Does.{Does}
 use Rattle.tables.proofs.Puts.{sized}
 use Rattle.tables.proofs.Frame.{larger-then, kept-then}
-use Rattle.tables.proofs.Tab.{getD-beyond}
-use Rattle.tables.proofs.Unique.{islands-is}
 use Rattle.steps.specs.Steps.{Steps}
 use Rattle.steps.specs.Lives.{Lives}
 use Rattle.steps.proofs.Good.{island-is}
@@ -38,6 +33,7 @@ use Rattle.steps.proofs.Isle.{Aside}
 use Rattle.steps.proofs.Names.{island-at}
 use Rattle.steps.proofs.Row.{row-steps}
 use Rattle.steps.proofs.Leave.{pending-put}
+use Rattle.numbers.proofs.Live.{lives-true}
 use Rattle.splits.specs.Part.{parting, checking, splitting, Parts}
 
 pub denial-most : (s : ℕ) → top - 16 < s → top ≡ denial s
@@ -95,52 +91,24 @@ split-parts {Z} {t} i c q h A D =
 
 -- ---- a live island, by the words
 module _ {Z : Sizes} {t : List ℕ} (i : ℕ) (S : Sound Z t) where
-  dead-far : extents (tables Z t) .islands ≤ i → live (worldOf Z t) i ≡ false
-  unfolding live
-  dead-far h =
-      let n : length (islandAt (worldOf Z t) i .bodies) ≡ 0 =
-      ap (λ (a : Island). length (a .bodies)) (getD-beyond (worldOf Z t .islands) noIsland i (let e = islands-is Z t in omega arith)) in
-      rw (eq-eqb (length (islandAt (worldOf Z t) i .bodies)) 0 n)
-
   module _ (l : i < extents (tables Z t) .islands) where
     pub island-is-in : islandAt (worldOf Z t) i ≡ islandIn Z (tables Z t) i
     unfolding worldOf
     island-is-in = island-at Z (extents (tables Z t)) (tables Z t) i l
 
-    size : length (islandAt (worldOf Z t) i .bodies) ≡ members-in Z (tables Z t) .count i
-    size = ap (λ (a : Island). length (a .bodies)) island-is-in ∙ length-list (S .good .members-wf .rules) i l
-
-    dead-empty : members-in Z (tables Z t) .count i ≡ 0 → live (worldOf Z t) i ≡ false
-    unfolding live
-    dead-empty e = rw (eq-eqb (length (islandAt (worldOf Z t) i .bodies)) 0 (size ∙ e))
-
-    live-some : members-in Z (tables Z t) .count i ≢ 0 → live (worldOf Z t) i ≡ true
-    unfolding live
-    live-some d = rw (ne-eqb (length (islandAt (worldOf Z t) i .bodies)) 0 (λ e. d (sym size ∙ e)))
-
-  -- it is not: its number is not in use, or it has no body
-  abbrev pub Dead : Type 0
-  Dead = (extents (tables Z t) .islands ≤ i) ⊎ ((i < extents (tables Z t) .islands) × (members-in Z (tables Z t) .count i ≡ 0))
-
-  dead : Dead → live (worldOf Z t) i ≡ false
-  dead d = ⊎-elim dead-far (λ x. dead-empty (x .0) (x .1)) d
-
-  pub split-none : Dead → Does Z (split-island-now i) t NoIsland t
+  pub split-none : live (worldOf Z t) i ≡ false → Does Z (split-island-now i) t NoIsland t
   unfolding split-island-now
-  split-none d = refused (split-island-now i) NoIsland S (rw (dead d))
+  split-none d = refused (split-island-now i) NoIsland S (rw d)
 
   module _ (L : Lives Z t i) where
-    pub lives-true : live (worldOf Z t) i ≡ true
-    lives-true = live-some (L .in-use) (L .some)
-
     pub split-done : {t′ : List ℕ} → Steps Z (splitting i) t t′ → Does Z (split-island-now i) t Done t′
     unfolding split-island-now splitting
-    split-done D = does-as (splitting i) (split-island-now i) (sym (rw lives-true)) (D .does)
+    split-done D = does-as (splitting i) (split-island-now i) (sym (rw (lives-true i S L))) (D .does)
 
   -- ---- who may bid
-  pub bid-dead : Dead → false ≡ split-allowed i (worldOf Z t)
+  pub bid-dead : live (worldOf Z t) i ≡ false → false ≡ split-allowed i (worldOf Z t)
   unfolding split-allowed
-  bid-dead d = rw (dead d)
+  bid-dead d = rw d
 
   module _ (L : Lives Z t i) where
     count-is : islandAt (worldOf Z t) i .constraint-remove-count ≡ getD (tables Z t .rows) (3 * i) 0
@@ -155,21 +123,21 @@ module _ {Z : Sizes} {t : List ℕ} (i : ℕ) (S : Sound Z t) where
 
     pub bid-none : getD (tables Z t .rows) (3 * i) 0 ≡ 0 → false ≡ split-allowed i (worldOf Z t)
     unfolding split-allowed
-    bid-none e = rw (lives-true L, eq-eqb (islandAt (worldOf Z t) i .constraint-remove-count) 0 (count-is ∙ e))
+    bid-none e = rw (lives-true i S L, eq-eqb (islandAt (worldOf Z t) i .constraint-remove-count) 0 (count-is ∙ e))
 
     pub bid-denied : getD (tables Z t .rows) (3 * i) 0 ≢ 0 → getD (tables Z t .head) 7 0 < getD (tables Z t .rows) (3 * i + 1) 0 → false ≡ split-allowed i (worldOf Z t)
     unfolding split-allowed denied
     bid-denied d h =
         let a = denied-is in
         let b = stamp-is in
-        rw (lives-true L, ne-eqb (islandAt (worldOf Z t) i .constraint-remove-count) 0 (λ e. d (sym count-is ∙ e)), lt-ltb (worldOf Z t .sleep-scan-stamp) (islandAt (worldOf Z t) i .split-denied-until) (omega arith))
+        rw (lives-true i S L, ne-eqb (islandAt (worldOf Z t) i .constraint-remove-count) 0 (λ e. d (sym count-is ∙ e)), lt-ltb (worldOf Z t .sleep-scan-stamp) (islandAt (worldOf Z t) i .split-denied-until) (omega arith))
 
     pub bid-yes : getD (tables Z t .rows) (3 * i) 0 ≢ 0 → getD (tables Z t .rows) (3 * i + 1) 0 ≤ getD (tables Z t .head) 7 0 → true ≡ split-allowed i (worldOf Z t)
     unfolding split-allowed denied
     bid-yes d h =
         let a = denied-is in
         let b = stamp-is in
-        rw (lives-true L, ne-eqb (islandAt (worldOf Z t) i .constraint-remove-count) 0 (λ e. d (sym count-is ∙ e)), le-ltb (worldOf Z t .sleep-scan-stamp) (islandAt (worldOf Z t) i .split-denied-until) (omega arith))
+        rw (lives-true i S L, ne-eqb (islandAt (worldOf Z t) i .constraint-remove-count) 0 (λ e. d (sym count-is ∙ e)), le-ltb (worldOf Z t .sleep-scan-stamp) (islandAt (worldOf Z t) i .split-denied-until) (omega arith))
 
 -- ---- the waiting split
 pub scheduled : {Z : Sizes} {t t′ : List ℕ} (i : ℕ) → Sound Z t → Put (headAt Z) (headLong Z) t t′ (writes (tables Z t .head) ((5, 1) ∷ (5 + 1, i) ∷ [])) → Does Z (schedule-split i) t Done t′
@@ -217,8 +185,8 @@ module _ {Z : Sizes} {t : List ℕ} (S : Sound Z t) where
           frame = D .does .frame;
         }
 
-    pub run-dead : Dead i (D .does .sound) → Does Z run-pending-split t Nothing t1
-    run-dead d = run-not (rw (dead i (D .does .sound) d))
+    pub run-dead : live (worldOf Z t1) i ≡ false → Does Z run-pending-split t Nothing t1
+    run-dead d = run-not (rw d)
 
     module _ (L : Lives Z t1 i) where
       asleep-is : islandAt (worldOf Z t1) i .sleeping ≡ eqb (getD (tables Z t1 .rows) (3 * i + 2) 0) 1

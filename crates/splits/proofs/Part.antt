@@ -92,6 +92,14 @@ unfolding bodiesLeave
 bodies-same g g′ b zero h w = refl
 bodies-same g g′ b (suc p) h w = rw (h p (omega arith)) (bodies-same g g′ b p (λ q l. h q (omega arith)) _)
 
+-- there is a label for each body
+pub labels-count : {Z : Sizes} {t L : List ℕ} (i : ℕ) → Sound Z t → Lives Z t i → L ≡ labelsOf (worldOf Z t) i → length L ≡ members-in Z (tables Z t) .count i
+unfolding labelsOf worldOf
+labels-count {Z} {t} {L} i S A e =
+    let T = tables Z t in
+    ap length e ∙ length-label (linksOf (worldOf Z t) i) (length (islandAt (worldOf Z t) i .bodies))
+    ∙ ap (λ (a : Island). length (a .bodies)) (island-at Z (extents T) T i (A .in-use)) ∙ length-list (S .good .members-wf .rules) i (A .in-use)
+
 -- ---- the parts
 module _ {Z : Sizes} {base keep asleep : ℕ} {L goals0 t0 : List ℕ} (R : PartReady Z base keep L goals0 t0) (aw : asleep ≡ getD (tables Z t0 .rows) (3 * base + 2) 0) where
   abbrev w0 : World
@@ -109,8 +117,7 @@ module _ {Z : Sizes} {base keep asleep : ℕ} {L goals0 t0 : List ℕ} (R : Part
   bodies-long = ap (λ (a : Island). length (a .bodies)) (island-at Z (extents T0) T0 base (R .lives .in-use)) ∙ length-list (R .sound .good .members-wf .rules) base (R .lives .in-use)
 
   labels-long : length L ≡ members-in Z T0 .count base
-  unfolding labelsOf
-  labels-long = ap length (R .labels-are) ∙ length-label (linksOf w0 base) (length (islandAt w0 base .bodies)) ∙ bodies-long
+  labels-long = labels-count base (R .sound) (R .lives) (R .labels-are)
 
   labels-fine : Labels L keep
   unfolding labelsOf
@@ -300,10 +307,3 @@ module _ {Z : Sizes} {t : List ℕ} (i : ℕ) (S : Sound Z t) (A : Lives Z t i) 
   -- an island has no more bodies than there are slots
   pub few-bodies : members-in Z (tables Z t) .count i ≤ Z .slots
   few-bodies = let a = count-le (S .good .members-wf .rules) i (A .in-use) in let b = S .good .slots-le in omega arith
-
-pub labels-count : {Z : Sizes} {t L : List ℕ} (i : ℕ) → Sound Z t → Lives Z t i → L ≡ labelsOf (worldOf Z t) i → length L ≡ members-in Z (tables Z t) .count i
-unfolding labelsOf worldOf
-labels-count {Z} {t} {L} i S A e =
-    let T = tables Z t in
-    ap length e ∙ length-label (linksOf (worldOf Z t) i) (length (islandAt (worldOf Z t) i .bodies))
-    ∙ ap (λ (a : Island). length (a .bodies)) (island-at Z (extents T) T i (A .in-use)) ∙ length-list (S .good .members-wf .rules) i (A .in-use)

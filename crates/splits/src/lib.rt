@@ -179,15 +179,10 @@ pub fn split_on(t: &mut [u32], z: Sizes, i: u32) -> Answer
     requires { ⌜ Sound z (now t) × (z .slots ≤ 4096) ⌝ }
     ensures { λ r. ⌜ Does z (split-island-now i) (now (t .entry)) r (now (t .exit)) ⌝ }
 {
-    let m = store::get(t, z, Table::Head, 1);
-    if i >= m {
+    if !numbers::is_live(t, z, i) {
         return Answer::NoIsland;
     }
-    let c = store::count(t, z, Table::Members, i);
-    if c == 0 {
-        return Answer::NoIsland;
-    }
-    let n = c as usize;
+    let n = store::body_count(t, z, i) as usize;
     split_live(t, z, i, n);
     Answer::Done
 }
@@ -212,19 +207,14 @@ pub fn run_on(t: &mut [u32], z: Sizes) -> Answer
     }
     let i = store::get(t, z, Table::Head, 6);
     store::set2(t, z, Table::Head, 5, 0, 0);
-    let m = store::get(t, z, Table::Head, 1);
-    if i >= m {
-        return Answer::Nothing;
-    }
-    let c = store::count(t, z, Table::Members, i);
-    if c == 0 {
+    if !numbers::is_live(t, z, i) {
         return Answer::Nothing;
     }
     let a = store::get(t, z, Table::Rows, 3 * (i as usize) + 2);
     if a == 1 {
         return Answer::Nothing;
     }
-    let n = c as usize;
+    let n = store::body_count(t, z, i) as usize;
     split_live(t, z, i, n);
     Answer::Done
 }
@@ -234,12 +224,7 @@ pub fn may_bid(t: &[u32], z: Sizes, i: u32) -> bool
     requires { ⌜ Sound z (now t) ⌝ }
     ensures { λ r. ⌜ r ≡ split-allowed i (worldOf z (now (t .entry))) ⌝ }
 {
-    let m = store::get(t, z, Table::Head, 1);
-    if i >= m {
-        return false;
-    }
-    let c = store::count(t, z, Table::Members, i);
-    if c == 0 {
+    if !numbers::is_live(t, z, i) {
         return false;
     }
     let removals = store::get(t, z, Table::Rows, 3 * (i as usize));

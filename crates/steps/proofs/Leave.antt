@@ -27,6 +27,7 @@ use Rattle.tables.proofs.Puts.{Sized, sized, put-head, put-members, put-rows, p
 use Rattle.tables.proofs.Chains.{Added, Taken, added, taken, push-ready, remove-ready, chain-refl, nil}
 use Rattle.tables.proofs.Frame.{larger-refl, kept-head, extents-is}
 use Rattle.steps.specs.Steps.{Steps, rowWords, leave, leave-last, clear-pending}
+use Rattle.steps.specs.Leaves.{Unpended}
 use Rattle.steps.proofs.Good.{island-is, world-is}
 use Rattle.steps.proofs.At.{steps-at, steps-none, steps-as}
 use Rattle.steps.proofs.Names.{island-at, place-of}
@@ -292,3 +293,18 @@ pending-cleared {Z} {t} i S p q P =
 pub pending-kept : {Z : Sizes} {t : List ℕ} (i : ℕ) → Sound Z t → (getD (tables Z t .head) 5 0 ≡ 1 → getD (tables Z t .head) 6 0 ≢ i) → Steps Z (clear-pending i) t t
 unfolding clear-pending clear-pending-split-of worldOf
 pending-kept {Z} {t} i S d = steps-none (clear-pending-split-of i) S (ap (split-set (worldOf Z t)) (pending-no _ _ i d))
+
+pub unpended : {Z : Sizes} {t t1 : List ℕ} (i : ℕ) → Sound Z t → getD (tables Z t .head) 5 0 ≡ 1 → getD (tables Z t .head) 6 0 ≡ i
+    → Put (headAt Z) (headLong Z) t t1 (writes (tables Z t .head) ((5, 0) ∷ (5 + 1, 0) ∷ [])) → Unpended Z i t t1
+unpended {Z} {t} {t1} i S p q P =
+    let T = tables Z t in
+    let e = put-head Z t t1 _ (S .long) P in
+    let h : tables Z t1 .head ≡ writes (T .head) ((5, 0) ∷ (5 + 1, 0) ∷ []) = ap (λ (W : Tables). W .head) e in
+    record {
+      steps = pending-cleared i S p q P;
+      extents-same = ap extents e ∙ clear-extents Z (extents T) T (S .good) (sized Z t (S .long)) 0 0;
+      rest = e ∙ ap (λ (x : List ℕ). head-put T x) (sym h);
+    }
+
+pub not-pending : {Z : Sizes} {t : List ℕ} (i : ℕ) → Sound Z t → (getD (tables Z t .head) 5 0 ≡ 1 → getD (tables Z t .head) 6 0 ≢ i) → Unpended Z i t t
+not-pending i S d = record { steps = pending-kept i S d; extents-same = refl; rest = refl }

@@ -8,7 +8,7 @@ use native.Mathlib.Omega.{arith}
 use borrow.Author.Tests.{eq-eqb, ne-eqb, le-leb, lt-leb}
 use lib.ListN.{length, getD}
 use Rattle.lists.specs.Rules.{listOf}
-use Rattle.lists.specs.Word.{writes, miss, hit}
+use Rattle.lists.specs.Word.{miss, hit}
 use Rattle.lists.specs.Table.{pushed, PushReady}
 use Rattle.lists.proofs.Laws.{either}
 use Rattle.lists.proofs.Order.{length-list}
@@ -17,25 +17,25 @@ use Rattle.frame.specs.Part.{Put}
 use Rattle.kinds.specs.declared.Sizes.{Sizes}
 use Rattle.state.specs.World.{Island, noIsland, World, done, free-set, islandAt, island-set}
 use Rattle.state.specs.Links.{survivor, addCounts, absorbed, absorb, merge-islands}
-use Rattle.tables.specs.Layout.{Tables, tables, total, headAt, headLong, membersAt, membersLong, contactsAt, contactsLong, jointsAt, jointsLong, rowsAt, rowsLong, freedAt, freedLong, head-put, members-put, contacts-put, joints-put, rows-put, freed-put, Extents, extents, members-in, contacts-in, joints-in, freed-in}
+use Rattle.tables.specs.Layout.{Tables, tables, total, membersAt, membersLong, contactsAt, contactsLong, jointsAt, jointsLong, rowsAt, rowsLong, freedAt, freedLong, head-put, members-put, contacts-put, joints-put, rows-put, freed-put, Extents, extents, members-in, contacts-in, joints-in, freed-in}
 use Rattle.tables.specs.Decode.{flag, contactAt, jointAt, islandIn, decode, worldOf}
 use Rattle.tables.specs.Rule.{Live}
 use Rattle.tables.specs.Sound.{IslandAt, Good, Sound}
 use Rattle.tables.specs.Does.{Kept}
-use Rattle.tables.proofs.Puts.{Sized, sized, put-head, put-members, put-contacts, put-joints, put-rows, put-freed}
+use Rattle.tables.proofs.Puts.{Sized, sized, put-members, put-contacts, put-joints, put-rows, put-freed}
 use Rattle.tables.proofs.Tab.{tabulate-two}
 use Rattle.tables.proofs.Chains.{Added, added, push-ready}
 use Rattle.tables.proofs.ChainsSplice.{Merged, merged, splice-ready, merged-none-home, merged-some-home}
 use Rattle.tables.proofs.Frame.{larger-refl, larger-then}
 use Rattle.steps.specs.Steps.{Steps, clear-pending}
 use Rattle.steps.specs.Linking.{absorbs}
-use Rattle.steps.specs.Merging.{bothAsleep, rowsMixed, TwoLive, LinksStay, Forgot, Absorbed, MergeDone}
+use Rattle.steps.specs.Leaves.{Unpended}
+use Rattle.steps.specs.Merging.{bothAsleep, rowsMixed, TwoLive, LinksStay, Absorbed, MergeDone}
 use Rattle.steps.proofs.Good.{island-is}
 use Rattle.steps.proofs.Then.{does-then}
 use Rattle.steps.proofs.At.{steps-at, steps-none, steps-as}
 use Rattle.steps.proofs.Names.{island-at}
 use Rattle.steps.proofs.Put.{bit-le, bit-is}
-use Rattle.steps.proofs.Leave.{pending-cleared, pending-kept, clear-extents}
 use Rattle.steps.proofs.Isle.{Aside, aside, Moving, moved, moved-good, moved-world, moved-same, moved-kept}
 
 -- ---- the rows
@@ -325,7 +325,7 @@ module _ {Z : Sizes} {t t1 t2 t3 t4 t5 : List ℕ} (g s : ℕ) (L : TwoLive Z g 
   pub in-sound : Sound Z t5
   in-sound = in-steps .does .sound
 
-  pub absorb-done : {t6 : List ℕ} → Forgot Z s t5 t6 → Absorbed Z g s t t6
+  pub absorb-done : {t6 : List ℕ} → Unpended Z s t5 t6 → Absorbed Z g s t t6
   unfolding absorbs absorb clear-pending taken-in
   absorb-done {t6} B =
       let S = L .sound in
@@ -342,22 +342,6 @@ module _ {Z : Sizes} {t t1 t2 t3 t4 t5 : List ℕ} (g s : ℕ) (L : TwoLive Z g 
         live = subst (λ (W : Tables). members-in Z W .count g ≢ 0) (sym q6) (in-live Z X T (S .good) K g s (L .a-lt) (L .b-lt) d (L .a-live) (L .b-live));
         stays = subst (LinksStay Z T) (sym q6) (in-stays Z X T (S .good) K g s (L .a-lt) (L .b-lt) d (L .a-live) (L .b-live) h x refl);
       }
-
--- ---- the pending split: of s, or of none or another
-pub forgot-cleared : {Z : Sizes} {t t1 : List ℕ} (i : ℕ) → Sound Z t → getD (tables Z t .head) 5 0 ≡ 1 → getD (tables Z t .head) 6 0 ≡ i
-    → Put (headAt Z) (headLong Z) t t1 (writes (tables Z t .head) ((5, 0) ∷ (5 + 1, 0) ∷ [])) → Forgot Z i t t1
-forgot-cleared {Z} {t} {t1} i S p q P =
-    let T = tables Z t in
-    let e = put-head Z t t1 _ (S .long) P in
-    let h : tables Z t1 .head ≡ writes (T .head) ((5, 0) ∷ (5 + 1, 0) ∷ []) = ap (λ (W : Tables). W .head) e in
-    record {
-      steps = pending-cleared i S p q P;
-      extents-same = ap extents e ∙ clear-extents Z (extents T) T (S .good) (sized Z t (S .long)) 0 0;
-      rest = e ∙ ap (λ (x : List ℕ). head-put T x) (sym h);
-    }
-
-pub forgot-kept : {Z : Sizes} {t : List ℕ} (i : ℕ) → Sound Z t → (getD (tables Z t .head) 5 0 ≡ 1 → getD (tables Z t .head) 6 0 ≢ i) → Forgot Z i t t
-forgot-kept i S d = record { steps = pending-kept i S d; extents-same = refl; rest = refl }
 
 -- ---- the merge of two islands
 -- an island's bodies are as many as its count says

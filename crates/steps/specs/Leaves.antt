@@ -8,7 +8,7 @@ use Rattle.kinds.specs.declared.Sizes.{Sizes}
 use Rattle.kinds.specs.declared.Answer.{Answer}
 use Rattle.state.specs.World.{World, Step, done, named}
 use Rattle.state.specs.Membership.{free-island, remove}
-use Rattle.tables.specs.Layout.{tables, extents, members-in}
+use Rattle.tables.specs.Layout.{tables, head-put, extents, members-in}
 use Rattle.tables.specs.Decode.{worldOf}
 use Rattle.tables.specs.Does.{Does}
 use Rattle.tables.specs.Larger.{Larger}
@@ -24,11 +24,11 @@ pub record Left (Z : Sizes) (f : World → Step) (s : ℕ) (t t′ : List ℕ) :
   pub gone : members-in Z (tables Z t′) .home s ≡ none
   pub slots : extents (tables Z t′) .slots ≡ extents (tables Z t) .slots
 
--- a pending split of i is cleared, and no body moves
+-- a pending split of i is cleared: only the head changes
 pub record Unpended (Z : Sizes) (i : ℕ) (t t′ : List ℕ) : Type 0 where
   pub steps : Steps Z (clear-pending i) t t′
-  pub members : tables Z t′ .members ≡ tables Z t .members
-  pub slots : extents (tables Z t′) .slots ≡ extents (tables Z t) .slots
+  pub extents-same : extents (tables Z t′) ≡ extents (tables Z t)
+  pub rest : tables Z t′ ≡ head-put (tables Z t) (tables Z t′ .head)
 
 pub record Removes (Z : Sizes) (s g : ℕ) (t : List ℕ) (r : Answer) (t′ : List ℕ) : Type 0 where
   pub does : Does Z (remove (handle s g)) t r t′

@@ -12,10 +12,10 @@ use Rattle.lists.specs.Table.{pick}
 use Rattle.kinds.specs.declared.Sizes.{Sizes}
 use Rattle.state.specs.World.{done}
 use Rattle.state.specs.Links.{survivor, addCounts, merge-islands}
-use Rattle.tables.specs.Layout.{Tables, tables, head-put, extents, members-in, contacts-in, joints-in}
+use Rattle.tables.specs.Layout.{Tables, tables, extents, members-in, contacts-in, joints-in}
 use Rattle.tables.specs.Decode.{bitOf, flag, worldOf}
 use Rattle.tables.specs.Sound.{Sound}
-use Rattle.steps.specs.Steps.{Steps, clear-pending}
+use Rattle.steps.specs.Steps.{Steps}
 use Rattle.steps.specs.Linking.{absorbs}
 
 -- asleep only if both sleep
@@ -48,12 +48,6 @@ pub record LinksStay (Z : Sizes) (T U : Tables) : Type 0 where
   pub fit : U .fit ≡ T .fit
   pub edge-none : (e : ℕ) → e < extents T .edges → contacts-in Z T .home e ≡ none → contacts-in Z U .home e ≡ none
   pub joint-none : (p : ℕ) → p < extents T .joints → joints-in Z T .home p ≡ none → joints-in Z U .home p ≡ none
-
--- a pending split of i is cleared: only the head changes
-pub record Forgot (Z : Sizes) (i : ℕ) (t t′ : List ℕ) : Type 0 where
-  pub steps : Steps Z (clear-pending i) t t′
-  pub extents-same : extents (tables Z t′) ≡ extents (tables Z t)
-  pub rest : tables Z t′ ≡ head-put (tables Z t) (tables Z t′ .head)
 
 -- the island small went into big
 pub record Absorbed (Z : Sizes) (big small : ℕ) (t t′ : List ℕ) : Type 0 where

@@ -9,7 +9,7 @@ use Rattle.leaves.proofs.remove_only.Lts as lts
 use Rattle.leaves.proofs.drop_contacts.Reads as drop-contacts-reads
 use Rattle.leaves.proofs.drop_joints.Reads as drop-joints-reads
 use Rattle.leaves.proofs.leave_last.Reads as leave-last-reads
-use Rattle.leaves.proofs.clear_pending_split_of.Reads as clear-pending-split-of-reads
+use Rattle.numbers.proofs.clear_pending_split_of.Reads as clear-pending-split-of-reads
 
 drop-contacts-requires : tie.Need-drop-contacts-requires
 drop-contacts-requires c κs =

@@ -5,7 +5,7 @@ use Rattle.merges.proofs.absorb.Statement.{statement}
 use Rattle.merges.proofs.absorb.Tie as tie
 use Rattle.merges.proofs.absorb.Reads as reads
 use Rattle.merges.proofs.absorb.Lts as lts
-use Rattle.merges.proofs.clear_pending.Reads as clear-pending-reads
+use Rattle.numbers.proofs.clear_pending_split_of.Reads as clear-pending-split-of-reads
 use Rattle.merges.proofs.mix_rows.Reads as mix-rows-reads
 use Rattle.store.proofs.push.Reads as push-reads
 use Rattle.store.proofs.splice.Reads as splice-reads
@@ -66,8 +66,8 @@ push-requires c κs =
     let t-pre = c18 .pre in
     (t-mix-rows .ensures .same-length ∙ t-splice3 .ensures .same-length ∙ t-splice2 .ensures .same-length ∙ t-splice .ensures .same-length ∙ t-pre .0 .sound .long, freed-ready (t-args .big) (t-args .small) (t-pre .0) (t-pre .1) (t-splice .ensures) (t-splice2 .ensures) (t-splice3 .ensures) (t-mix-rows .ensures))
 
-clear-pending-requires : tie.Need-clear-pending-requires
-clear-pending-requires c κs =
+clear-pending-split-of-requires : tie.Need-clear-pending-split-of-requires
+clear-pending-split-of-requires c κs =
     let c3 = c .before .before .before in
     let t-push = c3 .push in
     let c7 = c3 .before .before .before .before in
@@ -89,7 +89,7 @@ same-length c = search needs
 returns : tie.Need-returns
 returns c =
     let c2 = c .before .before in
-    let t-clear-pending = c2 .clear-pending in
+    let t-clear-pending-split-of = c2 .clear-pending-split-of in
     let c6 = c2 .before .before .before .before in
     let t-push = c6 .push in
     let c10 = c6 .before .before .before .before in
@@ -103,7 +103,7 @@ returns c =
     let c25 = c22 .before .before .before in
     let t-args = c25 .args in
     let t-pre = c25 .pre in
-    absorb-done (t-args .big) (t-args .small) (t-pre .0) (t-pre .1) (t-splice .ensures) (t-splice2 .ensures) (t-splice3 .ensures) (t-mix-rows .ensures) (t-push .ensures) (t-clear-pending .ensures)
+    absorb-done (t-args .big) (t-args .small) (t-pre .0) (t-pre .1) (t-splice .ensures) (t-splice2 .ensures) (t-splice3 .ensures) (t-mix-rows .ensures) (t-push .ensures) (t-clear-pending-split-of .ensures)
 
 pub absorb-spec : {M : Type 1} → statement M
 absorb-spec =
@@ -114,6 +114,6 @@ absorb-spec =
     splice-requires-3
     mix-rows-requires
     push-requires
-    clear-pending-requires
+    clear-pending-split-of-requires
     same-length
     returns)

@@ -1,10 +1,10 @@
 use mathlib.Core.Path.{sym, _∙_}
-use Rattle.steps.proofs.Merge.{forgot-cleared, forgot-kept}
 use borrow.Author.Needs.{needs}
-use Rattle.merges.proofs.clear_pending.Statement.{statement}
-use Rattle.merges.proofs.clear_pending.Tie as tie
-use Rattle.merges.proofs.clear_pending.Reads as reads
-use Rattle.merges.proofs.clear_pending.Lts as lts
+use Rattle.steps.proofs.Leave.{unpended, not-pending}
+use Rattle.numbers.proofs.clear_pending_split_of.Statement.{statement}
+use Rattle.numbers.proofs.clear_pending_split_of.Tie as tie
+use Rattle.numbers.proofs.clear_pending_split_of.Reads as reads
+use Rattle.numbers.proofs.clear_pending_split_of.Lts as lts
 use Rattle.store.proofs.get.Reads as get-reads
 use Rattle.store.proofs.set2.Reads as set2-reads
 
@@ -22,7 +22,7 @@ returns c =
     let c4 = c1 .before .before .before in
     let t-args = c4 .args in
     let t-pre = c4 .pre in
-    forgot-kept (t-args .i) t-pre (λ e. absurd (t-if1 .taken (t-get .ensures .0 ∙ e)))
+    not-pending (t-args .i) t-pre (λ p. absurd (t-if1 .taken (t-get .ensures .0 ∙ p)))
 
 get-requires-2 : tie.Need-get-requires-2
 get-requires-2 c κs = search needs
@@ -38,7 +38,7 @@ returns-2 c =
     let c7 = c1 .before .before .before .before .before .before in
     let t-args = c7 .args in
     let t-pre = c7 .pre in
-    forgot-kept (t-args .i) t-pre (λ e f. t-if2 .taken (t-get2 .ensures .0 ∙ f))
+    not-pending (t-args .i) t-pre (λ p q. t-if2 .taken (t-get2 .ensures .0 ∙ q))
 
 set2-requires : tie.Need-set2-requires
 set2-requires c κs = search needs
@@ -61,10 +61,10 @@ returns-3 c =
     let c11 = c8 .before .before .before in
     let t-args = c11 .args in
     let t-pre = c11 .pre in
-    forgot-cleared (t-args .i) t-pre (sym (t-get .ensures .0) ∙ t-if1 .left) (sym (t-get2 .ensures .0) ∙ t-if2 .left) (t-set2 .ensures)
+    unpended (t-args .i) t-pre (sym (t-get .ensures .0) ∙ t-if1 .left) (sym (t-get2 .ensures .0) ∙ t-if2 .left) (t-set2 .ensures)
 
-pub clear-pending-spec : {M : Type 1} → statement M
-clear-pending-spec =
+pub clear-pending-split-of-spec : {M : Type 1} → statement M
+clear-pending-split-of-spec =
     tie.close
     (tie.spec
     get-requires

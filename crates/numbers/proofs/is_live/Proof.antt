@@ -1,9 +1,9 @@
 use native.Mathlib.Omega.{arith}
 use mathlib.Core.Path.{sym, _∙_}
-use Rattle.scans.proofs.Asleep.{live-far, live-empty, live-some}
+use Rattle.numbers.proofs.Live.{live-far, live-empty, live-some}
 use borrow.Author.Needs.{needs}
-use Rattle.scans.proofs.is_live.Statement.{statement}
-use Rattle.scans.proofs.is_live.Tie as tie
+use Rattle.numbers.proofs.is_live.Statement.{statement}
+use Rattle.numbers.proofs.is_live.Tie as tie
 
 get-requires : tie.Need-get-requires
 get-requires c κs = search needs

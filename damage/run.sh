@@ -16,7 +16,7 @@ build() { # NAME FLAGS..
     local name=$1
     shift
     $cc -std=gnu11 -g -pthread "$@" -Wall -Wextra -Werror ${CFLAGS:-} -I "$root/include" "$here/damage.c" "$here/judge.c" \
-        "$root/target/staticlib/librig.a" ${LDFLAGS:-} -o "$out/$name"
+        "$root/target/staticlib/libashwoodrung.a" ${LDFLAGS:-} -o "$out/$name"
 }
 case ${1:-} in
 valgrind)

@@ -1,6 +1,6 @@
 #!/usr/bin/env python3
 """lesson_dump.py EXPECTED < ORACLE_OUTPUT > SCRIPT: for each dump of the oracle, `put I W 0 0 0` lines that poke word I to W, and `dump`.
-For a copy of the repository in which `calls::put` only stores the generation at the word of the slot's number: there the dumps that
+For a copy of the repository in which `host_calls::put` only stores the generation at the word of the slot's number: there the dumps that
 the program writes must be those of EXPECTED."""
 import sys
 N=4096;M=4096;E=16384;J=4096;L=8192;NONE=4294967295

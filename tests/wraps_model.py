@@ -1,7 +1,7 @@
 #!/usr/bin/env python3
-"""wraps_model.py: what crates/wraps must write, by document 01 (Sleep scan), with nothing of the Rattle code.
+"""wraps_model.py: what crates/test_wraps must write, by document 01 (Sleep scan), with nothing of the Rattle code.
 
-    python3 tests/wraps_model.py > crates/wraps/stdout
+    python3 tests/wraps_model.py > crates/test_wraps/stdout
 
 Two live islands, 0 and 1, awake, of one body each and with count 0, so that an island is listed exactly if all its observations
 were eligible.

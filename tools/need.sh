@@ -41,13 +41,11 @@ need_cargo() {
 
 # The proved static library, built by the kit where it is not there or is older than the sources that it is made of.
 need_archive() {
-    local archive=$1/target/staticlib/librig.a crate newer=
-    for crate in rig $(sed -n 's/^rig: //p' "$1/crates.txt"); do
-        newer=$newer$(find "$1/crates/$crate/src" -name '*.rt' -newer "$archive" -print -quit 2>&1 || true)
-    done
+    local archive=$1/target/staticlib/libashwoodrung.a newer
+    newer=$(find "$1/crates" -path '*/src/*.rt' ! -path '*/lesson*' ! -path '*/test_*' -newer "$archive" -print -quit 2>&1 || true)
     if [ -z "$newer" ]; then return; fi
     command -v rt > /dev/null || { echo "no $archive and no rt to build it: the Rattle kit has rt" >&2; exit 1; }
-    echo "building target/staticlib/librig.a: rt staticlib rig" >&2
+    echo "building target/staticlib/libashwoodrung.a: rt staticlib ashwoodrung" >&2
     local said
-    said=$(cd "$1" && rt staticlib rig 2>&1) || { echo "$said" | tail -30 >&2; exit 1; }
+    said=$(cd "$1" && rt staticlib ashwoodrung 2>&1) || { echo "$said" | tail -30 >&2; exit 1; }
 }

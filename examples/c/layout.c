@@ -1,4 +1,4 @@
-/* Where the header says that each table lies, against the sums that crates/tables/specs/Layout.antt says. Nothing runs: it compiles or not. */
+/* Where the header says that each table lies, against the sums that crates/table_meaning/specs/Layout.antt says. Nothing runs: it compiles or not. */
 #include "ashwoodrung.h"
 
 #ifdef __cplusplus

@@ -16,7 +16,7 @@ $cc -std=c11 $warn -Wstrict-prototypes -fsyntax-only "$here/layout.c"
 $cxx -x c++ -std=c++17 $warn -fsyntax-only "$here/layout.c"
 echo "include/ashwoodrung.h: C11 and C++17, no warning"
 
-$cc -std=c11 -O2 $warn ${CFLAGS:-} "$here/pallet.c" "$root/target/staticlib/librig.a" ${LDFLAGS:-} -o "$out/pallet"
+$cc -std=c11 -O2 $warn ${CFLAGS:-} "$here/pallet.c" "$root/target/staticlib/libashwoodrung.a" ${LDFLAGS:-} -o "$out/pallet"
 if $on "$out/pallet" | diff "$here/pallet.out" -; then
     echo "examples/c/pallet.c: wrote what pallet.out has"
 else

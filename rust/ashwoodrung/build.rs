@@ -1,4 +1,4 @@
-//! Links `librig.a`, the proved static library, which `rt staticlib rig` writes to the repository's `target/staticlib`. Another folder
+//! Links `libashwoodrung.a`, the proved static library, which `rt staticlib ashwoodrung` writes to the repository's `target/staticlib`. Another folder
 //! is named by the environment variable ASHWOODRUNG_LIB.
 
 use std::env;
@@ -11,20 +11,20 @@ fn main() {
         Some(folder) => PathBuf::from(folder),
         None => here.join("../../target/staticlib"),
     };
-    let archive = folder.join("librig.a");
+    let archive = folder.join("libashwoodrung.a");
     println!("cargo:rerun-if-changed={}", archive.display());
     if !archive.is_file() {
         eprintln!(
-            "no {}: build it with `rt staticlib rig` in the repository, or name its folder in ASHWOODRUNG_LIB",
+            "no {}: build it with `rt staticlib ashwoodrung` in the repository, or name its folder in ASHWOODRUNG_LIB",
             archive.display()
         );
         std::process::exit(1);
     }
     let target = env::var("CARGO_CFG_TARGET_ARCH").unwrap_or_default();
     if target != "x86_64" {
-        eprintln!("librig.a links into x86-64 programs only: build with --target x86_64-unknown-linux-gnu");
+        eprintln!("libashwoodrung.a links into x86-64 programs only: build with --target x86_64-unknown-linux-gnu");
         std::process::exit(1);
     }
     println!("cargo:rustc-link-search=native={}", folder.display());
-    println!("cargo:rustc-link-lib=static=rig");
+    println!("cargo:rustc-link-lib=static=ashwoodrung");
 }

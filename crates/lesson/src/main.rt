@@ -4,12 +4,12 @@ use libc::STDIN_FILENO;
 use libc::STDOUT_FILENO;
 
 fn run(fd: i32, name: &[u8]) {
-    let mut t = [0u32; dump::layout::TOTAL];
-    let mut list = [0u32; script::read::LIST];
-    let mut line = [0u8; script::read::LONGEST_LINE];
+    let mut t = [0u32; lesson_dump::layout::TOTAL];
+    let mut list = [0u32; lesson_script::read::LIST];
+    let mut line = [0u8; lesson_script::read::LONGEST_LINE];
     let mut piece = [0u8; 65536];
     let mut out = [0u8; 65536];
-    let is_read = script::read::run(fd, &mut t, &mut list, &mut line, &mut piece, &mut out);
+    let is_read = lesson_script::read::run(fd, &mut t, &mut list, &mut line, &mut piece, &mut out);
     if !is_read {
         io::write_all(STDERR_FILENO, b"lesson: cannot read ");
         os::fail(name);

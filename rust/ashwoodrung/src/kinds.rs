@@ -60,7 +60,7 @@ pub enum JointKey {
 /// A body's flags. A new one is enabled, awake and not fixed.
 #[derive(Copy, Clone, Debug, PartialEq, Eq, Hash)]
 pub struct Body {
-    /// It never moves, and is in no island.
+    /// It never moves: ensure gives it no island. A member that is turned fixed stays one until it is removed.
     pub is_fixed: bool,
     /// It takes part.
     pub is_enabled: bool,

@@ -5,8 +5,8 @@
 //!
 //! # Linking
 //!
-//! The crate links `librig.a`. Build it once with `rt staticlib rig` in the repository (Rattle's kit has `rt`), which writes
-//! `target/staticlib/librig.a`; the build script looks there, or in the folder that the environment variable `ASHWOODRUNG_LIB` names.
+//! The crate links `libashwoodrung.a`. Build it once with `rt staticlib ashwoodrung` in the repository (Rattle's kit has `rt`), which writes
+//! `target/staticlib/libashwoodrung.a`; the build script looks there, or in the folder that the environment variable `ASHWOODRUNG_LIB` names.
 //! The archive is for x86-64 Linux.
 //!
 //! # A first lesson

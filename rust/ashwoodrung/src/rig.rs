@@ -148,7 +148,7 @@ impl<T: AsRef<[u32]> + AsMut<[u32]>> Rig<T> {
         call!(self, ashwoodrung_contact, edge.0, s1, g1, s2, g2)
     }
 
-    /// Unlinks a contact, and journals its removal.
+    /// Unlinks a contact, and journals its removal, unless it joined a body to itself.
     pub fn uncontact(&mut self, edge: Edge) -> Answer {
         call!(self, ashwoodrung_uncontact, edge.0)
     }
@@ -172,7 +172,7 @@ impl<T: AsRef<[u32]> + AsMut<[u32]>> Rig<T> {
         }
     }
 
-    /// Unlinks a joint, and journals its removal.
+    /// Unlinks a joint, and journals its removal, unless it joined a body to itself.
     pub fn unjoint(&mut self, key: JointKey) -> Answer {
         match key {
             JointKey::Impulse { index, generation } => {
@@ -191,7 +191,7 @@ impl<T: AsRef<[u32]> + AsMut<[u32]>> Rig<T> {
         call!(self, ashwoodrung_chain, multibody, list.as_ptr(), list.len())
     }
 
-    /// Counts the journal's removals for the islands that they happened in, and empties it.
+    /// Counts each journalled removal for the island that both its bodies are in now, if they share one, and empties the journal.
     pub fn resolve(&mut self) -> Answer {
         call!(self, ashwoodrung_resolve)
     }

@@ -1,0 +1,2 @@
+-- Laws of the exports' promises.
+pub mod Agree

@@ -1,0 +1,2 @@
+-- Laws of sleeping and waking.
+pub mod Asleep

@@ -1,6 +1,0 @@
-pub mod Nodes
-pub mod Walk
-pub mod Forests
-pub mod OneLink
-pub mod Chain
-pub mod Island

@@ -1,3 +1,0 @@
--- Definitions that the contracts cite.
-pub mod Scanning
-pub mod Listing

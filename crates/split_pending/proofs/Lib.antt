@@ -1,0 +1,2 @@
+-- Laws of the waiting split.
+pub mod Pending

@@ -1,4 +1,6 @@
 // Runs a lesson script: reads it from the file that its argument names, or from standard input, and writes the answers.
+#![tactic(auto)]
+
 use libc::{STDERR_FILENO, STDIN_FILENO, STDOUT_FILENO};
 
 fn run(fd: i32, name: &[u8]) {

@@ -1,5 +1,7 @@
 // The whole state as text. It is read as it stands, sound or not: no index is wrong, and each walk along a list ends by the
 // list's count and by the table's capacity.
+#![tactic(auto)]
+
 mod bodies;
 mod chains;
 mod islands;

@@ -1,5 +1,7 @@
 // Text to be written. Bytes wait in a lent buffer, `used` of them, until it is full or `flush` is called. Each function answers
 // how many wait then. `digits` reads numbers.
+#![tactic(auto)]
+
 pub mod digits;
 
 ghost use Rattle.std.specs.Prelude.{◌≡◌, [], ◌∷◌};

@@ -1,6 +1,8 @@
 // The sleep scan around the wrap of its stamp: the tables are set up at each stamp from 4294967279 to 4294967295 and from 0 to 20,
 // and run through two scans there; then one yard goes through all of them. Each line's answer is followed by the stamp. What must
 // come out is tests/wraps_model.py's, a model of document 01 that shares nothing with this code.
+#![tactic(auto)]
+
 ghost use Rattle.std.specs.Prelude.{◌<◌, ◌≤◌, length};
 
 use lesson_dump::layout::STAMP;

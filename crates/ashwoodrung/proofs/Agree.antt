@@ -14,7 +14,7 @@ use Rattle.table_meaning.specs.Decode.{bit_of}
 use Rattle.table_meaning.proofs.Unique.{call-agree, reset-agree, asks-agree}
 use Rattle.table_meaning.proofs.Careful.{refusal-keeps, perform-careful}
 use Rattle.core_finish.proofs.Agree.{finish-agree, finish-keeps}
-use Rattle.host_calls.specs.Refusal.{refusedIsland, refusedBid}
+use Rattle.host_calls.specs.Refusal.{refused_island, refused_bid}
 use Rattle.ashwoodrung.specs.Told.{packed, Told, ToldReset, ToldIsland, ToldBid, ToldList}
 
 -- ---- two programs that meet it agree: on the number that they answer, on every word, on the output
@@ -27,11 +27,11 @@ told-reset-agree t r r' u u' (a, q, d) (b, s, e) = let g = reset-agree rig t a b
 
 pub told-island-agree : (f : World → IslandAnswer) (t : List ℕ) (r r' : ℕ) → ToldIsland f t r → ToldIsland f t r' → r ≡ r'
 told-island-agree f t r r' (a, q, d) (b, s, e) =
-    q ∙ ap (λ (x : IslandAnswer). packed (number x.answer) x.island.0) (asks-agree rig f refusedIsland t a b d e) ∙ sym s
+    q ∙ ap (λ (x : IslandAnswer). packed (number x.answer) x.island.0) (asks-agree rig f refused_island t a b d e) ∙ sym s
 
 pub told-bid-agree : (f : World → BidAnswer) (t : List ℕ) (r r' : ℕ) → ToldBid f t r → ToldBid f t r' → r ≡ r'
 told-bid-agree f t r r' (a, q, d) (b, s, e) =
-    q ∙ ap (λ (x : BidAnswer). packed (number x.answer) (bit_of x.yes)) (asks-agree rig f refusedBid t a b d e) ∙ sym s
+    q ∙ ap (λ (x : BidAnswer). packed (number x.answer) (bit_of x.yes)) (asks-agree rig f refused_bid t a b d e) ∙ sym s
 
 -- the numbers, the tables and the output
 pub record ListAgree (r r' : ℕ) (u u' out out' : List ℕ) : Type 0 where
@@ -42,7 +42,7 @@ pub record ListAgree (r r' : ℕ) (u u' out out' : List ℕ) : Type 0 where
 pub told-list-agree : (t out : List ℕ) (r r' : ℕ) (u u' out1 out2 : List ℕ) → ToldList t out r u out1 → ToldList t out r' u' out2 → ListAgree r r' u u' out1 out2
 told-list-agree t out r r' u u' out1 out2 (a, q, d) (b, s, e) =
     let g = finish-agree rig t out a.answer b.answer a.length b.length u u' out1 out2 d e in
-    record { told = q ∙ ap (λ (x : Answer). packed (number x) a.length) g.answer ∙ ap (packed (number b.answer)) g.length-same ∙ sym s; words = g.words; output = g.output }
+    record { told = q ∙ ap (λ (x : Answer). packed (number x) a.length) g.answer ∙ ap (packed (number b.answer)) g.length_same ∙ sym s; words = g.words; output = g.output }
 
 -- ---- an answer above 1 changes nothing
 
@@ -58,4 +58,4 @@ told-reset-keeps t r t' (a, q, inr e) h = e.same
 pub told-list-keeps : (t out : List ℕ) (r : ℕ) (t' out' : List ℕ) (x : ToldList t out r t' out') → 1 < number x.0.answer → (x.0.length ≡ 0) × (t' ≡ t) × (out' ≡ out)
 told-list-keeps t out r t' out' (a, q, d) h =
     let k = finish-keeps rig t out a.answer a.length t' out' d h in
-    (k.nothing-listed, k.words, k.output)
+    (k.nothing_listed, k.words, k.output)

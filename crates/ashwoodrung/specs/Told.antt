@@ -9,7 +9,7 @@ use Rattle.def_state.specs.World.{World, Step}
 use Rattle.table_meaning.specs.Does.{Called, Asks, Reset}
 use Rattle.table_meaning.specs.Decode.{bit_of}
 use Rattle.core_finish.specs.Listing.{Finish}
-use Rattle.host_calls.specs.Refusal.{refusedIsland, refusedBid}
+use Rattle.host_calls.specs.Refusal.{refused_island, refused_bid}
 
 -- a flag: 0 is no, any other number is yes
 abbrev pub is_set : ℕ → Bool
@@ -27,10 +27,10 @@ abbrev pub packed : (answer value : ℕ) → ℕ
 packed answer value = answer * 4294967296 + value
 
 abbrev pub ToldIsland : (f : World → IslandAnswer) (t : List ℕ) (r : ℕ) → Type 0
-ToldIsland f t r = (a : IslandAnswer) × (r ≡ packed (number a.answer) a.island.0) × Asks rig f refusedIsland t a
+ToldIsland f t r = (a : IslandAnswer) × (r ≡ packed (number a.answer) a.island.0) × Asks rig f refused_island t a
 
 abbrev pub ToldBid : (f : World → BidAnswer) (t : List ℕ) (r : ℕ) → Type 0
-ToldBid f t r = (a : BidAnswer) × (r ≡ packed (number a.answer) (bit_of a.yes)) × Asks rig f refusedBid t a
+ToldBid f t r = (a : BidAnswer) × (r ≡ packed (number a.answer) (bit_of a.yes)) × Asks rig f refused_bid t a
 
 abbrev pub ToldList : (t out : List ℕ) (r : ℕ) (t' out' : List ℕ) → Type 0
 ToldList t out r t' out' = (a : ListAnswer) × (r ≡ packed (number a.answer) a.length) × Finish rig t out a.answer a.length t' out'

@@ -4,16 +4,16 @@
 ghost use Rattle.std.specs.Prelude.{◌≡◌, ◌/◌, ◌%◌, length};
 ghost use Rattle.def_kinds.specs.Number.{number, rig};
 ghost use Rattle.def_state.specs.World.{impulse as impulseKey, chain as chainKey};
-ghost use Rattle.def_state.specs.Bodies.{put, flags, retire, island as islandOf};
+ghost use Rattle.def_state.specs.Bodies.{put, flags, retire, island as island_of};
 ghost use Rattle.def_state.specs.Membership.{ensure, remove};
-ghost use Rattle.def_state.specs.Links.{link-contact, unlink-contact, contact-edge-removed, link-joint, unlink-joint};
-ghost use Rattle.def_state.specs.Resolver.{resolve-removals};
-ghost use Rattle.def_state.specs.Chain.{refresh-multibody-chain};
-ghost use Rattle.core_laws.specs.Chaining.{handlesFrom};
+ghost use Rattle.def_state.specs.Links.{link_contact, unlink_contact, contact_edge_removed, link_joint, unlink_joint};
+ghost use Rattle.def_state.specs.Resolver.{resolve_removals};
+ghost use Rattle.def_state.specs.Chain.{refresh_multibody_chain};
+ghost use Rattle.core_laws.specs.Chaining.{handles_from};
 ghost use Rattle.core_laws.specs.Steps.{handle};
-ghost use Rattle.def_state.specs.Split.{split-island-now, schedule-split, run-pending-split};
-ghost use Rattle.def_state.specs.Scan.{begin-sleep-scan, observe-body-for-sleep, mark-island-sleeping, wake-island};
-ghost use Rattle.host_calls.specs.Refusal.{mayBid};
+ghost use Rattle.def_state.specs.Split.{split_island_now, schedule_split, run_pending_split};
+ghost use Rattle.def_state.specs.Scan.{begin_sleep_scan, observe_body_for_sleep, mark_island_sleeping, wake_island};
+ghost use Rattle.host_calls.specs.Refusal.{may_bid};
 ghost use Rattle.ashwoodrung.specs.Told.{is_set, packed, Told, ToldReset, ToldIsland, ToldBid, ToldList};
 
 use def_kinds::{Answer, Edge, Handle, Island, JointKey, Slot};
@@ -120,7 +120,7 @@ pub extern "C" fn ashwoodrung_retire(t: &mut [u32], slot: u32, generation: u32) 
 
 #[unsafe(no_mangle)]
 pub extern "C" fn ashwoodrung_island(t: &[u32], slot: u32, generation: u32) -> u64
-    ensures { ToldIsland (islandOf (handle slot generation)) t.now result }
+    ensures { ToldIsland (island_of (handle slot generation)) t.now result }
 {
     let h = Handle {
         slot: Slot(slot),
@@ -141,7 +141,7 @@ pub extern "C" fn ashwoodrung_contact(
     slot2: u32,
     generation2: u32,
 ) -> u32
-    ensures { Told (link-contact rig edge (handle slot1 generation1) (handle slot2 generation2)) t.old result t.new }
+    ensures { Told (link_contact rig edge (handle slot1 generation1) (handle slot2 generation2)) t.old result t.new }
 {
     let h1 = Handle {
         slot: Slot(slot1),
@@ -157,7 +157,7 @@ pub extern "C" fn ashwoodrung_contact(
 
 #[unsafe(no_mangle)]
 pub extern "C" fn ashwoodrung_uncontact(t: &mut [u32], edge: u32) -> u32
-    ensures { Told (unlink-contact rig edge) t.old result t.new }
+    ensures { Told (unlink_contact rig edge) t.old result t.new }
 {
     let a = host_calls::uncontact(t, Edge(edge));
     a.number()
@@ -165,7 +165,7 @@ pub extern "C" fn ashwoodrung_uncontact(t: &mut [u32], edge: u32) -> u32
 
 #[unsafe(no_mangle)]
 pub extern "C" fn ashwoodrung_renumber(t: &mut [u32], removed: u32, last: u32) -> u32
-    ensures { Told (contact-edge-removed removed last) t.old result t.new }
+    ensures { Told (contact_edge_removed removed last) t.old result t.new }
 {
     let a = host_calls::renumber(t, Edge(removed), Edge(last));
     a.number()
@@ -181,7 +181,7 @@ pub extern "C" fn ashwoodrung_joint_impulse(
     slot2: u32,
     generation2: u32,
 ) -> u32
-    ensures { Told (link-joint rig (impulseKey index generation) (handle slot1 generation1) (handle slot2 generation2)) t.old result t.new }
+    ensures { Told (link_joint rig (impulseKey index generation) (handle slot1 generation1) (handle slot2 generation2)) t.old result t.new }
 {
     let h1 = Handle {
         slot: Slot(slot1),
@@ -206,7 +206,7 @@ pub extern "C" fn ashwoodrung_joint_chain(
     slot2: u32,
     generation2: u32,
 ) -> u32
-    ensures { Told (link-joint rig (chainKey (multibody / 4294967296) (multibody % 4294967296) ordinal) (handle slot1 generation1) (handle slot2 generation2)) t.old result t.new }
+    ensures { Told (link_joint rig (chainKey (multibody / 4294967296) (multibody % 4294967296) ordinal) (handle slot1 generation1) (handle slot2 generation2)) t.old result t.new }
 {
     let h1 = Handle {
         slot: Slot(slot1),
@@ -223,7 +223,7 @@ pub extern "C" fn ashwoodrung_joint_chain(
 
 #[unsafe(no_mangle)]
 pub extern "C" fn ashwoodrung_unjoint_impulse(t: &mut [u32], index: u32, generation: u32) -> u32
-    ensures { Told (unlink-joint rig (impulseKey index generation)) t.old result t.new }
+    ensures { Told (unlink_joint rig (impulseKey index generation)) t.old result t.new }
 {
     let key = JointKey::Impulse { index, generation };
     let a = host_calls::unjoint(t, key);
@@ -232,7 +232,7 @@ pub extern "C" fn ashwoodrung_unjoint_impulse(t: &mut [u32], index: u32, generat
 
 #[unsafe(no_mangle)]
 pub extern "C" fn ashwoodrung_unjoint_chain(t: &mut [u32], multibody: u64, ordinal: u32) -> u32
-    ensures { Told (unlink-joint rig (chainKey (multibody / 4294967296) (multibody % 4294967296) ordinal)) t.old result t.new }
+    ensures { Told (unlink_joint rig (chainKey (multibody / 4294967296) (multibody % 4294967296) ordinal)) t.old result t.new }
 {
     let key = JointKey::Chain { multibody, ordinal };
     let a = host_calls::unjoint(t, key);
@@ -242,7 +242,7 @@ pub extern "C" fn ashwoodrung_unjoint_chain(t: &mut [u32], multibody: u64, ordin
 // The list has two words a handle, its slot and its generation.
 #[unsafe(no_mangle)]
 pub extern "C" fn ashwoodrung_chain(t: &mut [u32], multibody: u64, list: &[u32]) -> u32
-    ensures { Told (refresh-multibody-chain rig (multibody / 4294967296) (multibody % 4294967296) (handlesFrom list.now 0 (length list.now / 2))) t.old result t.new }
+    ensures { Told (refresh_multibody_chain rig (multibody / 4294967296) (multibody % 4294967296) (handles_from list.now 0 (length list.now / 2))) t.old result t.new }
 {
     let a = host_calls::chain(t, multibody, list);
     a.number()
@@ -250,7 +250,7 @@ pub extern "C" fn ashwoodrung_chain(t: &mut [u32], multibody: u64, list: &[u32])
 
 #[unsafe(no_mangle)]
 pub extern "C" fn ashwoodrung_resolve(t: &mut [u32]) -> u32
-    ensures { Told (resolve-removals) t.old result t.new }
+    ensures { Told (resolve_removals) t.old result t.new }
 {
     let a = host_calls::resolve(t);
     a.number()
@@ -258,7 +258,7 @@ pub extern "C" fn ashwoodrung_resolve(t: &mut [u32]) -> u32
 
 #[unsafe(no_mangle)]
 pub extern "C" fn ashwoodrung_split(t: &mut [u32], island: u32) -> u32
-    ensures { Told (split-island-now island) t.old result t.new }
+    ensures { Told (split_island_now island) t.old result t.new }
 {
     let a = host_calls::split(t, Island(island));
     a.number()
@@ -266,7 +266,7 @@ pub extern "C" fn ashwoodrung_split(t: &mut [u32], island: u32) -> u32
 
 #[unsafe(no_mangle)]
 pub extern "C" fn ashwoodrung_schedule(t: &mut [u32], island: u32) -> u32
-    ensures { Told (schedule-split island) t.old result t.new }
+    ensures { Told (schedule_split island) t.old result t.new }
 {
     let a = host_calls::schedule(t, Island(island));
     a.number()
@@ -274,7 +274,7 @@ pub extern "C" fn ashwoodrung_schedule(t: &mut [u32], island: u32) -> u32
 
 #[unsafe(no_mangle)]
 pub extern "C" fn ashwoodrung_run(t: &mut [u32]) -> u32
-    ensures { Told run-pending-split t.old result t.new }
+    ensures { Told run_pending_split t.old result t.new }
 {
     let a = host_calls::run(t);
     a.number()
@@ -282,7 +282,7 @@ pub extern "C" fn ashwoodrung_run(t: &mut [u32]) -> u32
 
 #[unsafe(no_mangle)]
 pub extern "C" fn ashwoodrung_may_bid(t: &[u32], island: u32) -> u64
-    ensures { ToldBid (mayBid island) t.now result }
+    ensures { ToldBid (may_bid island) t.now result }
 {
     let a = host_calls::may_bid(t, Island(island));
     let answer = a.answer;
@@ -293,7 +293,7 @@ pub extern "C" fn ashwoodrung_may_bid(t: &[u32], island: u32) -> u64
 
 #[unsafe(no_mangle)]
 pub extern "C" fn ashwoodrung_begin(t: &mut [u32]) -> u32
-    ensures { Told begin-sleep-scan t.old result t.new }
+    ensures { Told begin_sleep_scan t.old result t.new }
 {
     let a = host_calls::begin(t);
     a.number()
@@ -301,7 +301,7 @@ pub extern "C" fn ashwoodrung_begin(t: &mut [u32]) -> u32
 
 #[unsafe(no_mangle)]
 pub extern "C" fn ashwoodrung_observe(t: &mut [u32], island: u32, eligible: u32) -> u32
-    ensures { Told (observe-body-for-sleep island (is_set eligible)) t.old result t.new }
+    ensures { Told (observe_body_for_sleep island (is_set eligible)) t.old result t.new }
 {
     let e = is_set(eligible);
     let a = host_calls::observe(t, Island(island), e);
@@ -320,7 +320,7 @@ pub extern "C" fn ashwoodrung_finish(t: &mut [u32], out: &mut [u32]) -> u64
 
 #[unsafe(no_mangle)]
 pub extern "C" fn ashwoodrung_sleep(t: &mut [u32], island: u32) -> u32
-    ensures { Told (mark-island-sleeping island) t.old result t.new }
+    ensures { Told (mark_island_sleeping island) t.old result t.new }
 {
     let a = host_calls::sleep(t, Island(island));
     a.number()
@@ -328,7 +328,7 @@ pub extern "C" fn ashwoodrung_sleep(t: &mut [u32], island: u32) -> u32
 
 #[unsafe(no_mangle)]
 pub extern "C" fn ashwoodrung_wake(t: &mut [u32], island: u32) -> u32
-    ensures { Told (wake-island island) t.old result t.new }
+    ensures { Told (wake_island island) t.old result t.new }
 {
     let a = host_calls::wake(t, Island(island));
     a.number()

@@ -3,8 +3,8 @@ ghost use Rattle.std.specs.Prelude.{◌≡◌, ℕ, ◌+◌, ◌*◌, ◌<◌, �
 ghost use Rattle.list_in_table.specs.Rules.{none};
 ghost use Rattle.def_state.specs.World.{named};
 ghost use Rattle.def_state.specs.Bodies.{put, flags, vacate};
-ghost use Rattle.table_meaning.specs.Layout.{tables, extents, members-in};
-ghost use Rattle.table_meaning.specs.Decode.{worldOf, bit_of};
+ghost use Rattle.table_meaning.specs.Layout.{tables, extents, members_in};
+ghost use Rattle.table_meaning.specs.Decode.{world_of, bit_of};
 ghost use Rattle.table_meaning.specs.Sound.{Sound};
 ghost use Rattle.table_meaning.specs.Does.{Does};
 ghost use Rattle.core_laws.specs.Steps.{handle, Grew, Stood};
@@ -16,7 +16,7 @@ use table_meaning::{Table, word};
 // Does the handle of slot s and generation g name a live body?
 pub fn is_named(t: &[u32], z: Sizes, s: u32, g: u32) -> bool
     requires { Sound z t.now }
-    ensures { result ≡ named (worldOf z t.now) (handle s g) }
+    ensures { result ≡ named (world_of z t.now) (handle s g) }
 {
     if g == NONE {
         return false;
@@ -177,7 +177,7 @@ pub fn flags_on(
 
 // The slot s, whose body is in no island, holds nothing any more; the lowest generation that may come next is g + 1.
 pub fn empty_slot(t: &mut [u32], z: Sizes, s: u32, g: u32)
-    requires { Sound z t.old × (s < (extents (tables z t.old)).slots) × ((members-in z (tables z t.old)).home s ≡ none) × (g < none) }
+    requires { Sound z t.old × (s < (extents (tables z t.old)).slots) × ((members_in z (tables z t.old)).home s ≡ none) × (g < none) }
     ensures { Stood z s none (g + 1) 0 0 0 t.old t.new }
 {
     table_words::set5(

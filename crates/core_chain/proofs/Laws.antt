@@ -14,28 +14,28 @@ use Rattle.def_kinds.specs.declared.Answer.{Answer}
 use Rattle.def_kinds.specs.declared.Answer.TheVariants.{Done, JointsFull, JournalFull}
 use Rattle.def_state.specs.World.{Handle, Body, chain, World, body_of, named}
 use Rattle.def_state.proofs.Absent.{top-named}
-use Rattle.def_state.specs.Links.{jointRoom, link-joint, unlink-joint}
-use Rattle.def_state.specs.Chain.{chainable, chained, chainLength, oldLength, unlinked, linkedAll, refresh-multibody-chain}
+use Rattle.def_state.specs.Links.{joint_room, link_joint, unlink_joint}
+use Rattle.def_state.specs.Chain.{chainable, chained, chain_length, old_length, unlinked, linked_all, refresh_multibody_chain}
 use Rattle.table_meaning.specs.Layout.{tables, extents}
-use Rattle.table_meaning.specs.Decode.{flag, handleAt, worldOf}
+use Rattle.table_meaning.specs.Decode.{flag, handle_at, world_of}
 use Rattle.table_meaning.specs.Sound.{Sound}
 use Rattle.table_meaning.specs.Does.{Does}
 use Rattle.table_meaning.proofs.Frame.{kept_then}
-use Rattle.table_meaning.proofs.Unique.{journal-is}
+use Rattle.table_meaning.proofs.Unique.{journal_is}
 use Rattle.core_laws.specs.Steps.{handle}
 use Rattle.core_laws.specs.Places.{Finds}
-use Rattle.core_laws.specs.Chaining.{handlesFrom, Onward, CameBySteps, linkRest, LinkedOn}
+use Rattle.core_laws.specs.Chaining.{handles_from, Onward, CameBySteps, link_rest, LinkedOn}
 use Rattle.core_chain.specs.Linking.{present}
 use Rattle.core_laws.proofs.Then.{refused}
-use Rattle.core_laws.proofs.Names.{named-is}
+use Rattle.core_laws.proofs.Names.{named_is}
 use Rattle.core_laws.proofs.Put.{body-word}
-use Rattle.core_laws.proofs.JointKeys.{joint-home-none, joint-home, found_none, found_at}
+use Rattle.core_laws.proofs.JointKeys.{joint-home_none, joint-home, found_none, found_at}
 use Rattle.core_laws.proofs.Chaining.{onward_then, larger-of, unlink-on, link_on, came-start, came-step, came-done, length-missing, length-linked, length-end, unlinked-step, unlinked-end, handles-more, chainable-same, chained-yes, chained-no, chained-end, rest-first, rest-next, rest_end, rest-start, handles-length, refresh-long, refresh-full, refresh-journal, refresh-done}
 
 -- ---- whom a chain links
 module _ (Z : Sizes) (t : List ℕ) (s g : ℕ) where
   abbrev w : World
-  w = worldOf Z t
+  w = world_of Z t
 
   abbrev h : Handle
   h = handle s g
@@ -46,7 +46,7 @@ module _ (Z : Sizes) (t : List ℕ) (s g : ℕ) where
 
   module _ (n : named w h ≡ true) where
     pub slot-in : s < (extents (tables Z t)).slots
-    slot-in = (named-is Z t s g n).slot_lt
+    slot-in = (named_is Z t s g n).slot_lt
 
     fixed-is : (body_of w s).fixed ≡ flag (get_or (tables Z t).slots (5 * s + 2) 0)
     fixed-is = ap (λ (b : Body). b.fixed) (body-word Z t s slot-in)
@@ -87,12 +87,12 @@ chained_same u w e [] = refl
 chained_same u w e (h ∷ hs) = rw (chainable-same u w h e, chained_same u w e hs)
 
 pub chained-pick : (w : World) (x : List ℕ) (k n : ℕ) → k < n
-    → chained w (handlesFrom x k (n - k)) ≡ pick (chainable w (handleAt x (2 * k))) (handleAt x (2 * k) ∷ chained w (handlesFrom x (k + 1) (n - (k + 1)))) (chained w (handlesFrom x (k + 1) (n - (k + 1))))
+    → chained w (handles_from x k (n - k)) ≡ pick (chainable w (handle_at x (2 * k))) (handle_at x (2 * k) ∷ chained w (handles_from x (k + 1) (n - (k + 1)))) (chained w (handles_from x (k + 1) (n - (k + 1))))
 unfolding chained
 chained-pick w x k n l = ap (chained w) (handles-more x k n l)
 
 -- ---- the tables on their way
-pub came-at : {Z : Sizes} {t₀ t : List ℕ} {u : World} → CameBySteps Z t₀ t u → CameBySteps Z t₀ t (worldOf Z t)
+pub came-at : {Z : Sizes} {t₀ t : List ℕ} {u : World} → CameBySteps Z t₀ t u → CameBySteps Z t₀ t (world_of Z t)
 came-at {Z} {t₀} {t} {u} C = subst (λ (v : World). CameBySteps Z t₀ t v) (sym C.after) C
 
 pub came-is : {Z : Sizes} {t₀ t : List ℕ} {u v : World} → CameBySteps Z t₀ t u → u ≡ v → CameBySteps Z t₀ t v
@@ -104,85 +104,85 @@ came-then {Z} {t₀} {t} {t'} {u} {v} A B =
       sound = B.sound;
       after = B.after;
       onward = onward_then A.onward (subst (λ (x : World). Onward x v) A.after B.onward);
-      frame = kept_then (larger-of Z t t' (subst (λ (x : World). Onward (worldOf Z t) x) (sym B.after) B.onward)) A.frame B.frame;
+      frame = kept_then (larger-of Z t t' (subst (λ (x : World). Onward (world_of Z t) x) (sym B.after) B.onward)) A.frame B.frame;
     }
 
 -- ---- the length of the old chain
 module _ (Z : Sizes) (t : List ℕ) (high low : ℕ) where
   abbrev Passed : ℕ → Type 0
-  Passed o = oldLength Z (worldOf Z t) high low ≡ o + chainLength (worldOf Z t) high low o (Z.joints - o)
+  Passed o = old_length Z (world_of Z t) high low ≡ o + chain_length (world_of Z t) high low o (Z.joints - o)
 
   pub old-start : Passed 0
-  unfolding oldLength
+  unfolding old_length
   old-start = let e : Z.joints - 0 ≡ Z.joints = omega arith in rw e (omega arith)
 
-  pub old-end : (o : ℕ) → Passed o → Z.joints ≤ o → o ≡ oldLength Z (worldOf Z t) high low
-  old-end o P l = omega (arith, length-end (worldOf Z t) high low o Z.joints l)
+  pub old-end : (o : ℕ) → Passed o → Z.joints ≤ o → o ≡ old_length Z (world_of Z t) high low
+  old-end o P l = omega (arith, length-end (world_of Z t) high low o Z.joints l)
 
   module _ (o r : ℕ) (S : Sound Z t) (F : Finds Z (tables Z t) 1 high low o r) where
-    pub old-missing : Passed o → r ≡ none → o ≡ oldLength Z (worldOf Z t) high low
+    pub old-missing : Passed o → r ≡ none → o ≡ old_length Z (world_of Z t) high low
     old-missing P e =
-        omega (arith, length-missing (worldOf Z t) high low o (Z.joints - o) (joint-home-none 1 high low o S (inr refl) (found_none S F e)))
+        omega (arith, length-missing (world_of Z t) high low o (Z.joints - o) (joint-home_none 1 high low o S (inr refl) (found_none S F e)))
 
     pub old-turn : Passed o → o < Z.joints → r ≢ none → Passed (o + 1)
     old-turn P l d =
         let A = found_at S F d in
-        omega (arith, length-linked (worldOf Z t) high low o Z.joints l (λ e. A.keyed.linked (sym (joint-home 1 high low o S (inr refl) r A) ∙ e)))
+        omega (arith, length-linked (world_of Z t) high low o Z.joints l (λ e. A.keyed.linked (sym (joint-home 1 high low o S (inr refl) r A) ∙ e)))
 
 -- ---- how many bodies of the list
 module _ (w : World) (x : List ℕ) (n k c : ℕ) where
   abbrev Counted : ℕ → ℕ → Type 0
-  Counted k c = c + length (chained w (handlesFrom x k (n - k))) ≡ length (chained w (handlesFrom x 0 n))
+  Counted k c = c + length (chained w (handles_from x k (n - k))) ≡ length (chained w (handles_from x 0 n))
 
-  pub count-end : Counted k c → n ≤ k → c ≡ length (chained w (handlesFrom x 0 n))
-  count-end C l = let e : length (chained w (handlesFrom x k (n - k))) ≡ 0 = ap length (chained-end w x k n l) in omega arith
+  pub count-end : Counted k c → n ≤ k → c ≡ length (chained w (handles_from x 0 n))
+  count-end C l = let e : length (chained w (handles_from x k (n - k))) ≡ 0 = ap length (chained-end w x k n l) in omega arith
 
   module _ (C : Counted k c) (l : k < n) where
-    pub count_yes : chainable w (handleAt x (2 * k)) ≡ true → Counted (k + 1) (c + 1)
-    count_yes e = let q : length (chained w (handlesFrom x k (n - k))) ≡ suc (length (chained w (handlesFrom x (k + 1) (n - (k + 1))))) = ap length (chained-yes w x k n l e) in omega arith
+    pub count_yes : chainable w (handle_at x (2 * k)) ≡ true → Counted (k + 1) (c + 1)
+    count_yes e = let q : length (chained w (handles_from x k (n - k))) ≡ suc (length (chained w (handles_from x (k + 1) (n - (k + 1))))) = ap length (chained-yes w x k n l e) in omega arith
 
-    pub count_no : chainable w (handleAt x (2 * k)) ≡ false → Counted (k + 1) c
-    count_no e = let q : length (chained w (handlesFrom x k (n - k))) ≡ length (chained w (handlesFrom x (k + 1) (n - (k + 1)))) = ap length (chained-no w x k n l e) in omega arith
+    pub count_no : chainable w (handle_at x (2 * k)) ≡ false → Counted (k + 1) c
+    count_no e = let q : length (chained w (handles_from x k (n - k))) ≡ length (chained w (handles_from x (k + 1) (n - (k + 1)))) = ap length (chained-no w x k n l e) in omega arith
 
-pub count-start : (w : World) (x : List ℕ) (n : ℕ) → 0 + length (chained w (handlesFrom x 0 (n - 0))) ≡ length (chained w (handlesFrom x 0 n))
+pub count-start : (w : World) (x : List ℕ) (n : ℕ) → 0 + length (chained w (handles_from x 0 (n - 0))) ≡ length (chained w (handles_from x 0 n))
 count-start w x n = let e : n - 0 ≡ n = omega arith in rw e (omega arith)
 
 -- ---- the unlinking
 module _ (Z : Sizes) (t₀ : List ℕ) (high low n : ℕ) where
   -- the tables on their way, and what is left to unlink
   pub record Unlinking (t : List ℕ) (o : ℕ) : Type 0 where
-    pub came : CameBySteps Z t₀ t (worldOf Z t)
-    pub left : unlinked Z high low o (n - o) (worldOf Z t) ≡ unlinked Z high low 0 n (worldOf Z t₀)
+    pub came : CameBySteps Z t₀ t (world_of Z t)
+    pub left : unlinked Z high low o (n - o) (world_of Z t) ≡ unlinked Z high low 0 n (world_of Z t₀)
 
   pub unlink-start : Sound Z t₀ → Unlinking t₀ 0
   unlink-start S = record { came = came-start S; left = (let e : n - 0 ≡ n = omega arith in rw e) }
 
   module _ {t : List ℕ} (o : ℕ) (U : Unlinking t o) where
-    pub unlink-turn : {t' : List ℕ} {r : Answer} → o < n → Does Z (unlink-joint Z (chain high low o)) t r t' → Unlinking t' (o + 1)
+    pub unlink-turn : {t' : List ℕ} {r : Answer} → o < n → Does Z (unlink_joint Z (chain high low o)) t r t' → Unlinking t' (o + 1)
     unlink-turn {t'} l D =
         record {
-          came = came-at (came-step (unlink-joint Z (chain high low o)) (unlink-on Z (chain high low o) (worldOf Z t)) U.came D);
-          left = ap (unlinked Z high low (o + 1) (n - (o + 1))) D.after ∙ sym (unlinked-step Z high low o n (worldOf Z t) l) ∙ U.left;
+          came = came-at (came-step (unlink_joint Z (chain high low o)) (unlink-on Z (chain high low o) (world_of Z t)) U.came D);
+          left = ap (unlinked Z high low (o + 1) (n - (o + 1))) D.after ∙ sym (unlinked-step Z high low o n (world_of Z t) l) ∙ U.left;
         }
 
-    pub unlink-end : n ≤ o → CameBySteps Z t₀ t (unlinked Z high low 0 n (worldOf Z t₀))
-    unlink-end l = came-is U.came (sym (unlinked-end Z high low o n (worldOf Z t) l) ∙ U.left)
+    pub unlink-end : n ≤ o → CameBySteps Z t₀ t (unlinked Z high low 0 n (world_of Z t₀))
+    unlink-end l = came-is U.came (sym (unlinked-end Z high low o n (world_of Z t) l) ∙ U.left)
 
 -- ---- the linking of a handle
 module _ {Z : Sizes} {t : List ℕ} (high low : ℕ) (has : Bool) (o : ℕ) (p h : Handle) (S : Sound Z t) where
-  pub link-skip : chainable (worldOf Z t) h ≡ false → LinkedOn Z high low has o p h has o p t t
-  link-skip e = record { came = came-start S; rest = λ hs. rw e; ordinal-le = omega arith }
+  pub link-skip : chainable (world_of Z t) h ≡ false → LinkedOn Z high low has o p h has o p t t
+  link-skip e = record { came = came-start S; rest = λ hs. rw e; ordinal_le = omega arith }
 
-  module _ (e : chainable (worldOf Z t) h ≡ true) where
+  module _ (e : chainable (world_of Z t) h ≡ true) where
     pub link-first : has ≡ false → LinkedOn Z high low has o p h true 0 h t t
-    link-first f = record { came = came-start S; rest = λ hs. rw (e, f) (sym (rest-first Z high low o p h hs (worldOf Z t))); ordinal-le = omega arith }
+    link-first f = record { came = came-start S; rest = λ hs. rw (e, f) (sym (rest-first Z high low o p h hs (world_of Z t))); ordinal_le = omega arith }
 
-    pub link-pair : {t' : List ℕ} {r : Answer} → has ≡ true → Does Z (link-joint Z (chain high low o) p h) t r t' → LinkedOn Z high low has o p h true (o + 1) h t t'
+    pub link-pair : {t' : List ℕ} {r : Answer} → has ≡ true → Does Z (link_joint Z (chain high low o) p h) t r t' → LinkedOn Z high low has o p h true (o + 1) h t t'
     link-pair {t'} f D =
         record {
-          came = came-at (came-step (link-joint Z (chain high low o) p h) (link_on Z (chain high low o) p h (worldOf Z t)) (came-start S) D);
-          rest = λ hs. rw (e, f) (ap (linkRest Z high low true (o + 1) h hs) D.after ∙ sym (rest-next Z high low o p h hs (worldOf Z t)));
-          ordinal-le = omega arith;
+          came = came-at (came-step (link_joint Z (chain high low o) p h) (link_on Z (chain high low o) p h (world_of Z t)) (came-start S) D);
+          rest = λ hs. rw (e, f) (ap (link_rest Z high low true (o + 1) h hs) D.after ∙ sym (rest-next Z high low o p h hs (world_of Z t)));
+          ordinal_le = omega arith;
         }
 
 -- the handle that was linked can name a body
@@ -192,61 +192,61 @@ linked-as {Z} {high} {low} {o} {o'} {has} {p} {h} {p'} {t} {t'} b e L = subst (�
 -- ---- the linking of the list
 module _ (Z : Sizes) (t₀ : List ℕ) (high low : ℕ) (x : List ℕ) (n : ℕ) where
   abbrev w₀ : World
-  w₀ = worldOf Z t₀
+  w₀ = world_of Z t₀
 
   -- the tables on their way, and what is left to link
   pub record LinkingTo (t : List ℕ) (has : Bool) (o : ℕ) (p : Handle) (k : ℕ) : Type 0 where
-    pub came : CameBySteps Z t₀ t (worldOf Z t)
-    pub left : linkRest Z high low has o p (chained w₀ (handlesFrom x k (n - k))) (worldOf Z t) ≡ linkedAll Z high low (chained w₀ (handlesFrom x 0 n)) w₀
-    pub ordinal-le : o ≤ k
+    pub came : CameBySteps Z t₀ t (world_of Z t)
+    pub left : link_rest Z high low has o p (chained w₀ (handles_from x k (n - k))) (world_of Z t) ≡ linked_all Z high low (chained w₀ (handles_from x 0 n)) w₀
+    pub ordinal_le : o ≤ k
 
   pub link_start : (p : Handle) → Sound Z t₀ → LinkingTo t₀ false 0 p 0
-  link_start p S = record { came = came-start S; left = (let e : n - 0 ≡ n = omega arith in rw e (rest-start Z high low p (chained w₀ (handlesFrom x 0 n)) w₀)); ordinal-le = omega arith }
+  link_start p S = record { came = came-start S; left = (let e : n - 0 ≡ n = omega arith in rw e (rest-start Z high low p (chained w₀ (handles_from x 0 n)) w₀)); ordinal_le = omega arith }
 
   module _ {t : List ℕ} (has : Bool) (o : ℕ) (p : Handle) (k : ℕ) (L : LinkingTo t has o p k) where
-    pub link-turn : {t' : List ℕ} {has' : Bool} {o' : ℕ} {p' : Handle} → k < n → LinkedOn Z high low has o p (handleAt x (2 * k)) has' o' p' t t' → LinkingTo t' has' o' p' (k + 1)
+    pub link-turn : {t' : List ℕ} {has' : Bool} {o' : ℕ} {p' : Handle} → k < n → LinkedOn Z high low has o p (handle_at x (2 * k)) has' o' p' t t' → LinkingTo t' has' o' p' (k + 1)
     link-turn {t'} {has'} {o'} {p'} l N =
-        let hs = chained w₀ (handlesFrom x (k + 1) (n - (k + 1))) in
-        let h = handleAt x (2 * k) in
-        let q : pick (chainable (worldOf Z t) h) (h ∷ hs) hs ≡ chained w₀ (handlesFrom x k (n - k)) = ap (λ (b : Bool). pick b (h ∷ hs) hs) (chainable-same (worldOf Z t) w₀ h L.came.onward.bodies) ∙ sym (chained-pick w₀ x k n l) in
-        let a = N.ordinal-le in
-        let b = L.ordinal-le in
+        let hs = chained w₀ (handles_from x (k + 1) (n - (k + 1))) in
+        let h = handle_at x (2 * k) in
+        let q : pick (chainable (world_of Z t) h) (h ∷ hs) hs ≡ chained w₀ (handles_from x k (n - k)) = ap (λ (b : Bool). pick b (h ∷ hs) hs) (chainable-same (world_of Z t) w₀ h L.came.onward.bodies) ∙ sym (chained-pick w₀ x k n l) in
+        let a = N.ordinal_le in
+        let b = L.ordinal_le in
         record {
           came = came-then L.came N.came;
-          left = N.rest hs ∙ ap (λ (ls : List Handle). linkRest Z high low has o p ls (worldOf Z t)) q ∙ L.left;
-          ordinal-le = omega arith;
+          left = N.rest hs ∙ ap (λ (ls : List Handle). link_rest Z high low has o p ls (world_of Z t)) q ∙ L.left;
+          ordinal_le = omega arith;
         }
 
-    pub link-end : n ≤ k → CameBySteps Z t₀ t (linkedAll Z high low (chained w₀ (handlesFrom x 0 n)) w₀)
-    link-end l = came-is L.came (sym (rest_end Z high low has o p (worldOf Z t)) ∙ ap (λ (ls : List Handle). linkRest Z high low has o p ls (worldOf Z t)) (sym (chained-end w₀ x k n l)) ∙ L.left)
+    pub link-end : n ≤ k → CameBySteps Z t₀ t (linked_all Z high low (chained w₀ (handles_from x 0 n)) w₀)
+    link-end l = came-is L.came (sym (rest_end Z high low has o p (world_of Z t)) ∙ ap (λ (ls : List Handle). link_rest Z high low has o p ls (world_of Z t)) (sym (chained-end w₀ x k n l)) ∙ L.left)
 
 -- ---- the call
 module _ (Z : Sizes) (t : List ℕ) (high low : ℕ) (x : List ℕ) (n : ℕ) (S : Sound Z t) where
-  pub call_long : Z.slots < n → Does Z (refresh-multibody-chain Z high low (handlesFrom x 0 n)) t JointsFull t
-  call_long l = refused (refresh-multibody-chain Z high low (handlesFrom x 0 n)) JointsFull S (refresh-long Z high low (handlesFrom x 0 n) (worldOf Z t) (let e = handles-length x 0 n in omega arith))
+  pub call_long : Z.slots < n → Does Z (refresh_multibody_chain Z high low (handles_from x 0 n)) t JointsFull t
+  call_long l = refused (refresh_multibody_chain Z high low (handles_from x 0 n)) JointsFull S (refresh-long Z high low (handles_from x 0 n) (world_of Z t) (let e = handles-length x 0 n in omega arith))
 
-  module _ (old new room : ℕ) (l : n ≤ Z.slots) (o : old ≡ oldLength Z (worldOf Z t) high low) (c : new ≡ length (chained (worldOf Z t) (handlesFrom x 0 n))) (r : room ≡ jointRoom Z (worldOf Z t)) where
-    fits : length (handlesFrom x 0 n) ≤ Z.slots
+  module _ (old new room : ℕ) (l : n ≤ Z.slots) (o : old ≡ old_length Z (world_of Z t) high low) (c : new ≡ length (chained (world_of Z t) (handles_from x 0 n))) (r : room ≡ joint_room Z (world_of Z t)) where
+    fits : length (handles_from x 0 n) ≤ Z.slots
     fits = let e = handles-length x 0 n in omega arith
 
-    pub call-full : room + old + 1 < new → Does Z (refresh-multibody-chain Z high low (handlesFrom x 0 n)) t JointsFull t
-    call-full f = refused (refresh-multibody-chain Z high low (handlesFrom x 0 n)) JointsFull S (refresh-full Z high low (handlesFrom x 0 n) (worldOf Z t) fits (omega arith))
+    pub call-full : room + old + 1 < new → Does Z (refresh_multibody_chain Z high low (handles_from x 0 n)) t JointsFull t
+    call-full f = refused (refresh_multibody_chain Z high low (handles_from x 0 n)) JointsFull S (refresh-full Z high low (handles_from x 0 n) (world_of Z t) fits (omega arith))
 
     module _ (entries : ℕ) (f : new ≤ room + old + 1) (j : entries ≡ (extents (tables Z t)).journal) where
-      pub call-journal : Z.journal < entries + old → Does Z (refresh-multibody-chain Z high low (handlesFrom x 0 n)) t JournalFull t
+      pub call-journal : Z.journal < entries + old → Does Z (refresh_multibody_chain Z high low (handles_from x 0 n)) t JournalFull t
       call-journal q =
-          refused (refresh-multibody-chain Z high low (handlesFrom x 0 n)) JournalFull S
-          (refresh-journal Z high low (handlesFrom x 0 n) (worldOf Z t) fits (omega arith) (let e = journal-is Z t in let m = S.good.journal-le in omega arith))
+          refused (refresh_multibody_chain Z high low (handles_from x 0 n)) JournalFull S
+          (refresh-journal Z high low (handles_from x 0 n) (world_of Z t) fits (omega arith) (let e = journal_is Z t in let m = S.good.journal_le in omega arith))
 
       -- the chain is linked by the state after the unlinking, which has the same bodies
-      pub call-done : {t₁ t₂ : List ℕ} → entries + old ≤ Z.journal → CameBySteps Z t t₁ (unlinked Z high low 0 old (worldOf Z t))
-          → CameBySteps Z t₁ t₂ (linkedAll Z high low (chained (worldOf Z t₁) (handlesFrom x 0 n)) (worldOf Z t₁)) → Does Z (refresh-multibody-chain Z high low (handlesFrom x 0 n)) t Done t₂
+      pub call-done : {t₁ t₂ : List ℕ} → entries + old ≤ Z.journal → CameBySteps Z t t₁ (unlinked Z high low 0 old (world_of Z t))
+          → CameBySteps Z t₁ t₂ (linked_all Z high low (chained (world_of Z t₁) (handles_from x 0 n)) (world_of Z t₁)) → Does Z (refresh_multibody_chain Z high low (handles_from x 0 n)) t Done t₂
       call-done {t₁} {t₂} q A B =
-          let hs = handlesFrom x 0 n in
-          let w = worldOf Z t in
-          came-done (refresh-multibody-chain Z high low hs)
-          (refresh-done Z high low hs w fits (omega arith) (let e = journal-is Z t in let m = S.good.journal-le in omega arith))
+          let hs = handles_from x 0 n in
+          let w = world_of Z t in
+          came-done (refresh_multibody_chain Z high low hs)
+          (refresh-done Z high low hs w fits (omega arith) (let e = journal_is Z t in let m = S.good.journal_le in omega arith))
           (came-is (came-then A B)
-          (ap (λ (ls : List Handle). linkedAll Z high low ls (worldOf Z t₁)) (chained_same (worldOf Z t₁) w (came-at A).onward.bodies hs)
-          ∙ ap (linkedAll Z high low (chained w hs)) A.after
-          ∙ ap (λ (k : ℕ). linkedAll Z high low (chained w hs) (unlinked Z high low 0 k w)) o))
+          (ap (λ (ls : List Handle). linked_all Z high low ls (world_of Z t₁)) (chained_same (world_of Z t₁) w (came-at A).onward.bodies hs)
+          ∙ ap (linked_all Z high low (chained w hs)) A.after
+          ∙ ap (λ (k : ℕ). linked_all Z high low (chained w hs) (unlinked Z high low 0 k w)) o))

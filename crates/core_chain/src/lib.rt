@@ -1,12 +1,12 @@
 // Chain refresh: the old chain of a multibody is unlinked, then a new one is linked over the given bodies.
 ghost use Rattle.std.specs.Prelude.{◌≡◌, ◌*◌, ◌<◌, ◌≤◌, length};
 ghost use Rattle.list_in_table.specs.Rules.{none};
-ghost use Rattle.def_state.specs.Chain.{chainable, chained, oldLength, unlinked, linkedAll, refresh-multibody-chain};
-ghost use Rattle.table_meaning.specs.Decode.{worldOf};
+ghost use Rattle.def_state.specs.Chain.{chainable, chained, old_length, unlinked, linked_all, refresh_multibody_chain};
+ghost use Rattle.table_meaning.specs.Decode.{world_of};
 ghost use Rattle.table_meaning.specs.Sound.{Sound};
 ghost use Rattle.table_meaning.specs.Does.{Does};
 ghost use Rattle.core_laws.specs.Steps.{handle};
-ghost use Rattle.core_laws.specs.Chaining.{handlesFrom, CameBySteps, LinkedOn};
+ghost use Rattle.core_laws.specs.Chaining.{handles_from, CameBySteps, LinkedOn};
 ghost use Rattle.core_chain.specs.Linking.{present};
 
 use def_kinds::{Answer, Handle, NONE, Sizes, Slot};
@@ -15,7 +15,7 @@ use table_meaning::{Table, word};
 // Is it a live, enabled, non-fixed body?
 fn is_chainable(t: &[u32], z: Sizes, s: u32, g: u32) -> bool
     requires { Sound z t.now }
-    ensures { result ≡ chainable (worldOf z t.now) (handle s g) }
+    ensures { result ≡ chainable (world_of z t.now) (handle s g) }
 {
     if !core_body::is_named(t, z, s, g) {
         return false;
@@ -39,7 +39,7 @@ fn is_chainable(t: &[u32], z: Sizes, s: u32, g: u32) -> bool
 // How many ordinals from 0 on are linked, up to the first that is missing.
 fn old_length(t: &[u32], z: Sizes, high: u32, low: u32) -> u32
     requires { Sound z t.now }
-    ensures { (result ≡ oldLength z (worldOf z t.now) high low) × (result ≤ z.joints) }
+    ensures { (result ≡ old_length z (world_of z t.now) high low) × (result ≤ z.joints) }
 {
     let capacity = z.joints;
     let mut ordinal: u32 = 0;
@@ -60,7 +60,7 @@ fn old_length(t: &[u32], z: Sizes, high: u32, low: u32) -> u32
 // How many bodies of the list, n handles of two words, the new chain links.
 fn count_chainable(t: &[u32], z: Sizes, list: &[u32], n: u32) -> u32
     requires { Sound z t.now × (2 * n ≤ length list.now) }
-    ensures { (result ≡ length (chained (worldOf z t.now) (handlesFrom list.now 0 n))) × (result ≤ n) }
+    ensures { (result ≡ length (chained (world_of z t.now) (handles_from list.now 0 n))) × (result ≤ n) }
 {
     let mut found: u32 = 0;
     let mut k: u32 = 0;
@@ -78,7 +78,7 @@ fn count_chainable(t: &[u32], z: Sizes, list: &[u32], n: u32) -> u32
 // The first n ordinals are unlinked.
 fn unlink_chain(t: &mut [u32], z: Sizes, high: u32, low: u32, n: u32)
     requires { Sound z t.old }
-    ensures { CameBySteps z t.old t.new (unlinked z high low 0 n (worldOf z t.old)) }
+    ensures { CameBySteps z t.old t.new (unlinked z high low 0 n (world_of z t.old)) }
 {
     let mut ordinal: u32 = 0;
     // One turn for each link of the old chain.
@@ -127,7 +127,7 @@ fn link_next(t: &mut [u32], z: Sizes, high: u32, low: u32, c: Linking, s: u32, g
 // Successive bodies of the list are linked.
 fn link_chain(t: &mut [u32], z: Sizes, high: u32, low: u32, list: &[u32], n: u32)
     requires { Sound z t.old × (2 * n ≤ length list.now) }
-    ensures { CameBySteps z t.old t.new (linkedAll z high low (chained (worldOf z t.old) (handlesFrom list.now 0 n)) (worldOf z t.old)) }
+    ensures { CameBySteps z t.old t.new (linked_all z high low (chained (world_of z t.old) (handles_from list.now 0 n)) (world_of z t.old)) }
 {
     let mut linking = Linking {
         last: Handle::ABSENT,
@@ -145,7 +145,7 @@ fn link_chain(t: &mut [u32], z: Sizes, high: u32, low: u32, list: &[u32], n: u32
 // Chain refresh of the multibody with these high and low 32 bits, on sound tables. The list has two words a handle.
 pub fn refresh_on(t: &mut [u32], z: Sizes, high: u32, low: u32, list: &[u32], n: u32) -> Answer
     requires { Sound z t.old × (2 * n ≤ length list.now) }
-    ensures { Does z (refresh-multibody-chain z high low (handlesFrom list.now 0 n)) t.old result t.new }
+    ensures { Does z (refresh_multibody_chain z high low (handles_from list.now 0 n)) t.old result t.new }
 {
     if n > z.slots {
         return Answer::JointsFull;

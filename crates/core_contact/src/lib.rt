@@ -1,14 +1,14 @@
 // Contact links on sound tables: the tracked length, one link comes or goes, the journal, contact unlink; and the island of a handle.
 ghost use Rattle.std.specs.Prelude.{◌≡◌, ◌≢◌, ℕ, ◌+◌, ◌*◌, ◌<◌, ◌≤◌};
 ghost use Rattle.list_in_table.specs.Rules.{none};
-ghost use Rattle.def_state.specs.World.{body-island};
-ghost use Rattle.def_state.specs.Links.{sameHandle, unlink-contact};
-ghost use Rattle.table_meaning.specs.Layout.{tables, extents, contacts-in};
-ghost use Rattle.table_meaning.specs.Decode.{worldOf};
+ghost use Rattle.def_state.specs.World.{body_island};
+ghost use Rattle.def_state.specs.Links.{same_handle, unlink_contact};
+ghost use Rattle.table_meaning.specs.Layout.{tables, extents, contacts_in};
+ghost use Rattle.table_meaning.specs.Decode.{world_of};
 ghost use Rattle.table_meaning.specs.Sound.{Sound};
 ghost use Rattle.table_meaning.specs.Does.{Does};
 ghost use Rattle.core_laws.specs.Steps.{handle, Steps};
-ghost use Rattle.core_laws.specs.Linking.{tracking, contactOf, contact-push, journalled};
+ghost use Rattle.core_laws.specs.Linking.{tracking, contact_of, contact_push, journalled};
 ghost use Rattle.core_laws.specs.Loose.{Loosely, ContactGone};
 ghost use Rattle.core_laws.specs.Lives.{Lives};
 
@@ -18,7 +18,7 @@ use table_meaning::{Table, word};
 // The island of the body that the handle names: NONE where it names none, or one in no island.
 pub fn body_island(t: &[u32], z: Sizes, s: u32, g: u32) -> u32
     requires { Sound z t.now }
-    ensures { result ≡ body-island (worldOf z t.now) (handle s g) }
+    ensures { result ≡ body_island (world_of z t.now) (handle s g) }
 {
     if !core_body::is_named(t, z, s, g) {
         return NONE;
@@ -72,8 +72,8 @@ pub fn grow_edges(t: &mut [u32], z: Sizes, k: u32)
 
 // The edge e, which is tracked and not linked, is the last contact link of the live island i, between these two bodies.
 pub fn push_contact(t: &mut [u32], z: Sizes, i: u32, e: u32, s1: u32, g1: u32, s2: u32, g2: u32)
-    requires { Sound z t.old × (e < (extents (tables z t.old)).edges) × ((contacts-in z (tables z t.old)).home e ≡ none) × Lives z t.old i }
-    ensures { Steps z (contact-push i (contactOf e s1 g1 s2 g2)) t.old t.new }
+    requires { Sound z t.old × (e < (extents (tables z t.old)).edges) × ((contacts_in z (tables z t.old)).home e ≡ none) × Lives z t.old i }
+    ensures { Steps z (contact_push i (contact_of e s1 g1 s2 g2)) t.old t.new }
 {
     table_words::push(t, z, Table::Contacts, i, e);
     table_words::set4(
@@ -90,7 +90,7 @@ pub fn push_contact(t: &mut [u32], z: Sizes, i: u32, e: u32, s1: u32, g1: u32, s
 
 // The linked edge e is taken out of its island's list, whose last link takes its place.
 pub fn take_contact(t: &mut [u32], z: Sizes, e: u32)
-    requires { Loosely z t.old × (e < (extents (tables z t.old)).edges) × ((contacts-in z (tables z t.old)).home e ≢ none) }
+    requires { Loosely z t.old × (e < (extents (tables z t.old)).edges) × ((contacts_in z (tables z t.old)).home e ≢ none) }
     ensures { ContactGone z e t.old t.new }
 {
     table_words::remove_edge(t, z, e);
@@ -109,7 +109,7 @@ pub fn push_entry(t: &mut [u32], z: Sizes, s1: u32, g1: u32, s2: u32, g2: u32)
 
 // Is it the same body?
 pub fn same_handle(s1: u32, g1: u32, s2: u32, g2: u32) -> bool
-    ensures { result ≡ sameHandle (handle s1 g1) (handle s2 g2) }
+    ensures { result ≡ same_handle (handle s1 g1) (handle s2 g2) }
 {
     if s1 != s2 {
         return false;
@@ -123,7 +123,7 @@ pub fn same_handle(s1: u32, g1: u32, s2: u32, g2: u32) -> bool
 // unlink_contact, on sound tables. A link from a body to itself is not journalled.
 pub fn unlink_contact_on(t: &mut [u32], z: Sizes, e: u32) -> Answer
     requires { Sound z t.old }
-    ensures { Does z (unlink-contact z e) t.old result t.new }
+    ensures { Does z (unlink_contact z e) t.old result t.new }
 {
     let tracked = table_words::head_word(t, z, word::TRACKED);
     if e >= tracked {

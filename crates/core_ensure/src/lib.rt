@@ -1,12 +1,12 @@
 // Ensure on sound tables: a number for a new island, the island of one body.
 ghost use Rattle.std.specs.Prelude.{◌≡◌, ◌≢◌, ℕ, ◌+◌, ◌*◌, ◌<◌, ◌≤◌, length, get_or};
 ghost use Rattle.list_in_table.specs.Rules.{none};
-ghost use Rattle.def_state.specs.Membership.{mayJoin, ensure};
-ghost use Rattle.table_meaning.specs.Layout.{tables, total, extents, members-in, freed-in};
-ghost use Rattle.table_meaning.specs.Decode.{worldOf, flag};
+ghost use Rattle.def_state.specs.Membership.{may_join, ensure};
+ghost use Rattle.table_meaning.specs.Layout.{tables, total, extents, members_in, freed_in};
+ghost use Rattle.table_meaning.specs.Decode.{world_of, flag};
 ghost use Rattle.table_meaning.specs.Sound.{Sound};
 ghost use Rattle.table_meaning.specs.Does.{Does};
-ghost use Rattle.core_laws.specs.Steps.{handle, islandBlanked, found, Steps};
+ghost use Rattle.core_laws.specs.Steps.{handle, island_blanked, found, Steps};
 ghost use Rattle.core_laws.specs.Loose.{Loosely, IslandMore, MadeReady};
 
 use def_kinds::{Answer, NONE, Sizes};
@@ -15,7 +15,7 @@ use table_meaning::{Table, word};
 // Is it a live, enabled, non-fixed non-member?
 pub fn may_join(t: &[u32], z: Sizes, s: u32, g: u32) -> bool
     requires { Sound z t.now }
-    ensures { result ≡ mayJoin (worldOf z t.now) (handle s g) }
+    ensures { result ≡ may_join (world_of z t.now) (handle s g) }
 {
     if !core_body::is_named(t, z, s, g) {
         return false;
@@ -43,7 +43,7 @@ pub fn may_join(t: &[u32], z: Sizes, s: u32, g: u32) -> bool
 // The words of an island number that is taken in: no bodies, no links, not observed, not yet in the free stack.
 fn blank_island(t: &mut [u32], z: Sizes, m: u32)
     requires { (length t.old ≡ total z) × (m < z.islands) }
-    ensures { (length t.new ≡ length t.old) × (tables z t.new ≡ islandBlanked z (tables z t.old) m) }
+    ensures { (length t.new ≡ length t.old) × (tables z t.new ≡ island_blanked z (tables z t.old) m) }
 {
     let bodies = table_words::ends_at(z, Table::Members);
     let contacts = table_words::ends_at(z, Table::Contacts);
@@ -70,7 +70,7 @@ pub fn grow_island(t: &mut [u32], z: Sizes, m: u32)
 
 // There is a free number: the next unused one comes in where the stack is empty.
 pub fn make_ready(t: &mut [u32], z: Sizes)
-    requires { Loosely z t.old × ((freed-in z (tables z t.old)).count 0 ≡ 0 → ((extents (tables z t.old)).islands < z.islands) × ((extents (tables z t.old)).islands < none)) }
+    requires { Loosely z t.old × ((freed_in z (tables z t.old)).count 0 ≡ 0 → ((extents (tables z t.old)).islands < z.islands) × ((extents (tables z t.old)).islands < none)) }
     ensures { MadeReady z t.old t.new }
 {
     let freed = table_words::count(t, z, Table::Freed, 0);
@@ -83,7 +83,7 @@ pub fn make_ready(t: &mut [u32], z: Sizes)
 
 // The last freed number becomes an island of the body in slot s, a live body that is in no island.
 pub fn found_island(t: &mut [u32], z: Sizes, s: u32)
-    requires { Sound z t.old × (s < (extents (tables z t.old)).slots) × ((members-in z (tables z t.old)).home s ≡ none) × (get_or (tables z t.old).slots (5 * s) 0 ≢ none) × (0 < (freed-in z (tables z t.old)).count 0) × (get_or (tables z t.old).slots (5 * s + 4) 0 ≤ 1) }
+    requires { Sound z t.old × (s < (extents (tables z t.old)).slots) × ((members_in z (tables z t.old)).home s ≡ none) × (get_or (tables z t.old).slots (5 * s) 0 ≢ none) × (0 < (freed_in z (tables z t.old)).count 0) × (get_or (tables z t.old).slots (5 * s + 4) 0 ≤ 1) }
     ensures { Steps z (found s (flag (get_or (tables z t.old).slots (5 * s + 4) 0))) t.old t.new }
 {
     let asleep = table_words::get(

@@ -15,34 +15,34 @@ use Rattle.list_in_table.proofs.Pigeon.{count-le}
 use Rattle.def_kinds.specs.declared.Sizes.{Sizes}
 use Rattle.def_state.specs.World.{Island, Observed, live}
 use Rattle.def_state.specs.Scan.{sleepable, sleepables}
-use Rattle.table_meaning.specs.Layout.{Tables, tables, extents, members-in, scan-in}
-use Rattle.table_meaning.specs.Decode.{flag, observedAt, worldOf}
+use Rattle.table_meaning.specs.Layout.{Tables, tables, extents, members_in, scan_in}
+use Rattle.table_meaning.specs.Decode.{flag, observed_at, world_of}
 use Rattle.table_meaning.specs.Sound.{Sound}
 use Rattle.core_laws.proofs.Names.{island-at}
-use Rattle.core_finish.specs.Restful.{restful, restful-to, Wrote}
+use Rattle.core_finish.specs.Restful.{restful, restful_to, Wrote}
 use Rattle.core_finish.proofs.Lists.{sleepables-le, sleepables-yes, sleepables-no}
 
 -- ---- may the island i sleep, by its words
-abbrev wordsRest : (fit bodies asleep count : ℕ) → Bool
-wordsRest f c a r = flag f && (not (eqb c 0) && (not (flag a) && (eqb r 0 || leb c 1)))
+abbrev words_rest : (fit bodies asleep count : ℕ) → Bool
+words_rest f c a r = flag f && (not (eqb c 0) && (not (flag a) && (eqb r 0 || leb c 1)))
 
 module _ (f c a r : ℕ) where
-  rest-unfit : f ≢ 1 → wordsRest f c a r ≡ false
+  rest-unfit : f ≢ 1 → words_rest f c a r ≡ false
   rest-unfit d = rw (ne_eqb f 1 d)
 
-  rest-dead : f ≡ 1 → c ≡ 0 → wordsRest f c a r ≡ false
+  rest-dead : f ≡ 1 → c ≡ 0 → words_rest f c a r ≡ false
   rest-dead p q = rw (eq-eqb f 1 p, eq-eqb c 0 q)
 
-  rest-asleep : f ≡ 1 → c ≢ 0 → a ≡ 1 → wordsRest f c a r ≡ false
+  rest-asleep : f ≡ 1 → c ≢ 0 → a ≡ 1 → words_rest f c a r ≡ false
   rest-asleep p q s = rw (eq-eqb f 1 p, ne_eqb c 0 q, eq-eqb a 1 s)
 
-  rest-whole : f ≡ 1 → c ≢ 0 → a ≢ 1 → r ≡ 0 → wordsRest f c a r ≡ true
+  rest-whole : f ≡ 1 → c ≢ 0 → a ≢ 1 → r ≡ 0 → words_rest f c a r ≡ true
   rest-whole p q s u = rw (eq-eqb f 1 p, ne_eqb c 0 q, ne_eqb a 1 s, eq-eqb r 0 u)
 
-  rest-many : f ≡ 1 → c ≢ 0 → a ≢ 1 → r ≢ 0 → 1 < c → wordsRest f c a r ≡ false
+  rest-many : f ≡ 1 → c ≢ 0 → a ≢ 1 → r ≢ 0 → 1 < c → words_rest f c a r ≡ false
   rest-many p q s u v = rw (eq-eqb f 1 p, ne_eqb c 0 q, ne_eqb a 1 s, ne_eqb r 0 u, lt-leb c 1 v)
 
-  rest-one : f ≡ 1 → c ≢ 0 → a ≢ 1 → r ≢ 0 → c ≤ 1 → wordsRest f c a r ≡ true
+  rest-one : f ≡ 1 → c ≢ 0 → a ≢ 1 → r ≢ 0 → c ≤ 1 → words_rest f c a r ≡ true
   rest-one p q s u v = rw (eq-eqb f 1 p, ne_eqb c 0 q, ne_eqb a 1 s, ne_eqb r 0 u, le-leb c 1 v)
 
 module _ {Z : Sizes} {t : List ℕ} (i : ℕ) (S : Sound Z t) (il : i < (extents (tables Z t)).islands) where
@@ -53,7 +53,7 @@ module _ {Z : Sizes} {t : List ℕ} (i : ℕ) (S : Sound Z t) (il : i < (extents
   fit = get_or T.fit i 0
 
   abbrev bodies : ℕ
-  bodies = (members-in Z T).count i
+  bodies = (members_in Z T).count i
 
   abbrev asleep : ℕ
   asleep = get_or T.rows (3 * i + 2) 0
@@ -62,14 +62,14 @@ module _ {Z : Sizes} {t : List ℕ} (i : ℕ) (S : Sound Z t) (il : i < (extents
   count = get_or T.rows (3 * i) 0
 
   abbrev may : Bool
-  may = sleepable (worldOf Z t) (observedAt T.fit i)
+  may = sleepable (world_of Z t) (observed_at T.fit i)
 
-  may-is : may ≡ wordsRest fit bodies asleep count
-  unfolding sleepable live worldOf
+  may-is : may ≡ words_rest fit bodies asleep count
+  unfolding sleepable live world_of
   may-is =
-      ap (λ (a : Island). flag fit && (not (eqb (length a.bodies) 0) && (not a.sleeping && (eqb a.constraint-remove-count 0 || leb (length a.bodies) 1))))
+      ap (λ (a : Island). flag fit && (not (eqb (length a.bodies) 0) && (not a.sleeping && (eqb a.constraint_remove_count 0 || leb (length a.bodies) 1))))
       (island-at Z (extents T) T i il)
-      ∙ ap (λ (n : ℕ). flag fit && (not (eqb n 0) && (not (flag asleep) && (eqb count 0 || leb n 1)))) (length-list S.good.members-wf.rules i il)
+      ∙ ap (λ (n : ℕ). flag fit && (not (eqb n 0) && (not (flag asleep) && (eqb count 0 || leb n 1)))) (length-list S.good.members_wf.rules i il)
 
   pub may-unfit : fit ≢ 1 → false ≡ may
   may-unfit d = sym (may-is ∙ rest-unfit fit bodies asleep count d)
@@ -92,93 +92,93 @@ module _ {Z : Sizes} {t : List ℕ} (i : ℕ) (S : Sound Z t) (il : i < (extents
 -- ---- the walk: e is the k-th of the scan's list
 pub record Stands (Z : Sizes) (t : List ℕ) (k e : ℕ) : Type 0 where
   pub lt : e < (extents (tables Z t)).islands
-  pub home-is : (scan-in Z (tables Z t)).home e ≡ 0
-  pub place_is : (scan-in Z (tables Z t)).place e + 1 ≡ k
+  pub home_is : (scan_in Z (tables Z t)).home e ≡ 0
+  pub place_is : (scan_in Z (tables Z t)).place e + 1 ≡ k
 
 module _ {Z : Sizes} {t : List ℕ} (S : Sound Z t) where
   abbrev V1 : View
-  V1 = scan-in Z (tables Z t)
+  V1 = scan_in Z (tables Z t)
 
   abbrev R : Rules (extents (tables Z t)).islands 1 V1
-  R = S.good.scan-wf.rules
+  R = S.good.scan_wf.rules
 
   pub stands-last : V1.count 0 ≢ 0 → Stands Z t (V1.count 0) (V1.last 0)
-  stands-last d = let F = full R 0 (omega arith) d in record { lt = F.last-lt; home-is = F.last-home; place_is = F.last-place }
+  stands-last d = let F = full R 0 (omega arith) d in record { lt = F.last_lt; home_is = F.last_home; place_is = F.last_place }
 
   pub stands-prev : (k e : ℕ) → Stands Z t k e → k - 1 ≢ 0 → Stands Z t (k - 1) (V1.prev e)
   stands-prev k e A d =
       ⊎_elim (λ f. absurd (let a = f.at_zero in let b = A.place_is in omega arith))
-      (λ f. record { lt = f.prev-lt; home-is = f.prev-home ∙ A.home-is; place_is = (let a = f.prev-place in let b = A.place_is in omega arith) })
-      (held_in R e 0 A.lt (omega arith) A.home-is).back
+      (λ f. record { lt = f.prev_lt; home_is = f.prev_home ∙ A.home_is; place_is = (let a = f.prev_place in let b = A.place_is in omega arith) })
+      (held_in R e 0 A.lt (omega arith) A.home_is).back
 
   -- so many fit a word
   pub restful-le : length (restful Z t) ≤ none
-  unfolding worldOf
+  unfolding world_of
   restful-le =
-      let a = sleepables-le (worldOf Z t) (map (observedAt (tables Z t).fit) (list_of V1 0)) in
-      let b = length-map (list_of V1 0) (observedAt (tables Z t).fit) in
+      let a = sleepables-le (world_of Z t) (map (observed_at (tables Z t).fit) (list_of V1 0)) in
+      let b = length-map (list_of V1 0) (observed_at (tables Z t).fit) in
       let c = length-list R 0 (omega arith) in
       let d = count-le R 0 (omega arith) in
-      let n = R.n-small in
+      let n = R.n_small in
       omega arith
 
 module _ (Z : Sizes) (t : List ℕ) where
   abbrev P : ℕ → ℕ
-  P = (scan-in Z (tables Z t)).prev
+  P = (scan_in Z (tables Z t)).prev
 
   abbrev O : ℕ → Observed
-  O = observedAt (tables Z t).fit
+  O = observed_at (tables Z t).fit
 
   -- the whole list
-  pub restful-all : restful-to Z t ((scan-in Z (tables Z t)).count 0) ((scan-in Z (tables Z t)).last 0) ≡ restful Z t
-  unfolding worldOf list_of
+  pub restful-all : restful_to Z t ((scan_in Z (tables Z t)).count 0) ((scan_in Z (tables Z t)).last 0) ≡ restful Z t
+  unfolding world_of list_of
   restful-all = refl
 
-  pub restful-none : (e : ℕ) → restful-to Z t 0 e ≡ []
+  pub restful-none : (e : ℕ) → restful_to Z t 0 e ≡ []
   unfolding sleepables
   restful-none e = refl
 
   one_less : (k : ℕ) → k ≢ 0 → suc (k - 1) ≡ k
   one_less k d = omega arith
 
-  last-of : (k e : ℕ) → restful-to Z t (suc k) e ≡ sleepables (worldOf Z t) (map O (walk P k (P e)) ++ (O e ∷ []))
-  last-of k e = ap (sleepables (worldOf Z t)) (map-append O (walk P k (P e)) (e ∷ []))
+  last-of : (k e : ℕ) → restful_to Z t (suc k) e ≡ sleepables (world_of Z t) (map O (walk P k (P e)) ++ (O e ∷ []))
+  last-of k e = ap (sleepables (world_of Z t)) (map-append O (walk P k (P e)) (e ∷ []))
 
   -- one that may sleep is the last of those up to it
-  pub restful-yes : (k e : ℕ) → k ≢ 0 → sleepable (worldOf Z t) (O e) ≡ true → restful-to Z t k e ≡ restful-to Z t (k - 1) (P e) ++ (e ∷ [])
+  pub restful-yes : (k e : ℕ) → k ≢ 0 → sleepable (world_of Z t) (O e) ≡ true → restful_to Z t k e ≡ restful_to Z t (k - 1) (P e) ++ (e ∷ [])
   restful-yes k e d h =
-      subst (λ (n : ℕ). restful-to Z t n e ≡ restful-to Z t (k - 1) (P e) ++ (e ∷ [])) (one_less k d)
-      (last-of (k - 1) e ∙ sleepables-yes (worldOf Z t) (map O (walk P (k - 1) (P e))) (O e) h)
+      subst (λ (n : ℕ). restful_to Z t n e ≡ restful_to Z t (k - 1) (P e) ++ (e ∷ [])) (one_less k d)
+      (last-of (k - 1) e ∙ sleepables-yes (world_of Z t) (map O (walk P (k - 1) (P e))) (O e) h)
 
-  pub restful-no : (k e : ℕ) → k ≢ 0 → sleepable (worldOf Z t) (O e) ≡ false → restful-to Z t k e ≡ restful-to Z t (k - 1) (P e)
+  pub restful-no : (k e : ℕ) → k ≢ 0 → sleepable (world_of Z t) (O e) ≡ false → restful_to Z t k e ≡ restful_to Z t (k - 1) (P e)
   restful-no k e d h =
-      subst (λ (n : ℕ). restful-to Z t n e ≡ restful-to Z t (k - 1) (P e)) (one_less k d)
-      (last-of (k - 1) e ∙ sleepables-no (worldOf Z t) (map O (walk P (k - 1) (P e))) (O e) h ∙ append-nil (restful-to Z t (k - 1) (P e)))
+      subst (λ (n : ℕ). restful_to Z t n e ≡ restful_to Z t (k - 1) (P e)) (one_less k d)
+      (last-of (k - 1) e ∙ sleepables-no (world_of Z t) (map O (walk P (k - 1) (P e))) (O e) h ∙ append-nil (restful_to Z t (k - 1) (P e)))
 
 -- ---- counted: what is left to count, and what was found
-pub counted-yes : (Z : Sizes) (t : List ℕ) (k e found : ℕ) → k ≢ 0 → sleepable (worldOf Z t) (observedAt (tables Z t).fit e) ≡ true
-    → length (restful-to Z t k e) + found ≡ length (restful Z t) → length (restful-to Z t (k - 1) ((scan-in Z (tables Z t)).prev e)) + (found + 1) ≡ length (restful Z t)
+pub counted-yes : (Z : Sizes) (t : List ℕ) (k e found : ℕ) → k ≢ 0 → sleepable (world_of Z t) (observed_at (tables Z t).fit e) ≡ true
+    → length (restful_to Z t k e) + found ≡ length (restful Z t) → length (restful_to Z t (k - 1) ((scan_in Z (tables Z t)).prev e)) + (found + 1) ≡ length (restful Z t)
 counted-yes Z t k e found d h q =
-    let r = restful-to Z t (k - 1) ((scan-in Z (tables Z t)).prev e) in
-    let a : length (restful-to Z t k e) ≡ length r + 1 = ap length (restful-yes Z t k e d h) ∙ length-append r (e ∷ []) in
+    let r = restful_to Z t (k - 1) ((scan_in Z (tables Z t)).prev e) in
+    let a : length (restful_to Z t k e) ≡ length r + 1 = ap length (restful-yes Z t k e d h) ∙ length-append r (e ∷ []) in
     omega arith
 
-pub counted-no : (Z : Sizes) (t : List ℕ) (k e found : ℕ) → k ≢ 0 → sleepable (worldOf Z t) (observedAt (tables Z t).fit e) ≡ false
-    → length (restful-to Z t k e) + found ≡ length (restful Z t) → length (restful-to Z t (k - 1) ((scan-in Z (tables Z t)).prev e)) + found ≡ length (restful Z t)
+pub counted-no : (Z : Sizes) (t : List ℕ) (k e found : ℕ) → k ≢ 0 → sleepable (world_of Z t) (observed_at (tables Z t).fit e) ≡ false
+    → length (restful_to Z t k e) + found ≡ length (restful Z t) → length (restful_to Z t (k - 1) ((scan_in Z (tables Z t)).prev e)) + found ≡ length (restful Z t)
 counted-no Z t k e found d h q = let a = ap length (restful-no Z t k e d h) in omega arith
 
 -- ---- written: those up to e are to come, at out[0] to out[j - 1], and behind them all is as it will be
 pub record Written (Z : Sizes) (t out₀ : List ℕ) (k e j : ℕ) (out : List ℕ) : Type 0 where
   pub stands : k ≢ 0 → Stands Z t k e
-  pub place : j ≡ length (restful-to Z t k e)
+  pub place : j ≡ length (restful_to Z t k e)
   pub long : length out ≡ length out₀
   pub room : j ≤ length out
-  pub behind : restful-to Z t k e ++ drop j out ≡ restful Z t ++ drop (length (restful Z t)) out₀
+  pub behind : restful_to Z t k e ++ drop j out ≡ restful Z t ++ drop (length (restful Z t)) out₀
 
-pub written_start : {Z : Sizes} {t out : List ℕ} (n k e : ℕ) → Sound Z t → n ≡ length (restful Z t) → n ≤ length out → k ≡ (scan-in Z (tables Z t)).count 0 → e ≡ (scan-in Z (tables Z t)).last 0
+pub written_start : {Z : Sizes} {t out : List ℕ} (n k e : ℕ) → Sound Z t → n ≡ length (restful Z t) → n ≤ length out → k ≡ (scan_in Z (tables Z t)).count 0 → e ≡ (scan_in Z (tables Z t)).last 0
     → Written Z t out k e n out
 written_start {Z} {t} {out} n k e S q l p r =
-    let a : restful-to Z t k e ≡ restful Z t = rw (p, r) (restful-all Z t) in
+    let a : restful_to Z t k e ≡ restful Z t = rw (p, r) (restful-all Z t) in
     record {
       stands = λ d. rw (p, r) (stands-last S (λ z. d (p ∙ z)));
       place = q ∙ sym (ap length a);
@@ -193,25 +193,25 @@ drop-set (y ∷ x) zero e h = refl
 drop-set (y ∷ x) (suc j) e h = drop-set x j e (omega arith)
 
 -- there is room for one that may sleep
-pub written-room : {Z : Sizes} {t out₀ out : List ℕ} {k e j : ℕ} → Written Z t out₀ k e j out → k ≢ 0 → sleepable (worldOf Z t) (observedAt (tables Z t).fit e) ≡ true → (0 < j) × (j ≤ length out)
+pub written-room : {Z : Sizes} {t out₀ out : List ℕ} {k e j : ℕ} → Written Z t out₀ k e j out → k ≢ 0 → sleepable (world_of Z t) (observed_at (tables Z t).fit e) ≡ true → (0 < j) × (j ≤ length out)
 written-room {Z} {t} {out₀} {out} {k} {e} {j} W d h =
-    let r = restful-to Z t (k - 1) ((scan-in Z (tables Z t)).prev e) in
-    let a : length (restful-to Z t k e) ≡ length r + 1 = ap length (restful-yes Z t k e d h) ∙ length-append r (e ∷ []) in
+    let r = restful_to Z t (k - 1) ((scan_in Z (tables Z t)).prev e) in
+    let a : length (restful_to Z t k e) ≡ length r + 1 = ap length (restful-yes Z t k e d h) ∙ length-append r (e ∷ []) in
     let b = W.place in
     (omega arith, W.room)
 
 pub written-more : {Z : Sizes} {t out₀ out out' : List ℕ} {k e j : ℕ} (j' : ℕ) → Sound Z t → Written Z t out₀ k e j out → k ≢ 0 → Wrote Z t e j j' out out'
-    → Written Z t out₀ (k - 1) ((scan-in Z (tables Z t)).prev e) j' out'
-written-more {Z} {t} {out₀} {out} {out'} {k} {e} {j} j' S W d D = go (sleepable (worldOf Z t) (observedAt (tables Z t).fit e)) refl
+    → Written Z t out₀ (k - 1) ((scan_in Z (tables Z t)).prev e) j' out'
+written-more {Z} {t} {out₀} {out} {out'} {k} {e} {j} j' S W d D = go (sleepable (world_of Z t) (observed_at (tables Z t).fit e)) refl
   where
     r : List ℕ
-    r = restful-to Z t (k - 1) ((scan-in Z (tables Z t)).prev e)
+    r = restful_to Z t (k - 1) ((scan_in Z (tables Z t)).prev e)
 
-    go : (b : Bool) → sleepable (worldOf Z t) (observedAt (tables Z t).fit e) ≡ b → Written Z t out₀ (k - 1) ((scan-in Z (tables Z t)).prev e) j' out'
+    go : (b : Bool) → sleepable (world_of Z t) (observed_at (tables Z t).fit e) ≡ b → Written Z t out₀ (k - 1) ((scan_in Z (tables Z t)).prev e) j' out'
     go true h =
         let y = D.rests h in
-        let q : restful-to Z t k e ≡ r ++ (e ∷ []) = restful-yes Z t k e d h in
-        let a : length (restful-to Z t k e) ≡ length r + 1 = ap length q ∙ length-append r (e ∷ []) in
+        let q : restful_to Z t k e ≡ r ++ (e ∷ []) = restful-yes Z t k e d h in
+        let a : length (restful_to Z t k e) ≡ length r + 1 = ap length q ∙ length-append r (e ∷ []) in
         let p = W.place in
         let m = W.room in
         let s : j' + 1 ≡ j = y.0 in
@@ -228,7 +228,7 @@ written-more {Z} {t} {out₀} {out} {out'} {k} {e} {j} j' S W d D = go (sleepabl
         }
     go false h =
         let y = D.wakes h in
-        let q : restful-to Z t k e ≡ r = restful-no Z t k e d h in
+        let q : restful_to Z t k e ≡ r = restful-no Z t k e d h in
         let v : length out' ≡ length out = ap length y.1 in
         record {
           stands = stands-prev S k e (W.stands d);
@@ -240,6 +240,6 @@ written-more {Z} {t} {out₀} {out} {out'} {k} {e} {j} j' S W d D = go (sleepabl
 
 pub written_all : {Z : Sizes} {t out₀ out : List ℕ} {k e j : ℕ} → k ≡ 0 → Written Z t out₀ k e j out → out ≡ restful Z t ++ drop (length (restful Z t)) out₀
 written_all {Z} {t} {out₀} {out} {k} {e} {j} z W =
-    let a : restful-to Z t k e ≡ [] = ap (λ (n : ℕ). restful-to Z t n e) z ∙ restful-none Z t e in
+    let a : restful_to Z t k e ≡ [] = ap (λ (n : ℕ). restful_to Z t n e) z ∙ restful-none Z t e in
     let b : j ≡ 0 = W.place ∙ ap length a in
     sym (ap (λ (x : List ℕ). x ++ drop j out) a ∙ ap (λ (i : ℕ). drop i out) b) ∙ W.behind

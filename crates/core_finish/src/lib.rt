@@ -2,7 +2,7 @@
 ghost use Rattle.std.specs.Prelude.{◌≡◌, true, ◌++◌, ◌<◌, ◌≤◌, length, drop};
 ghost use Rattle.def_state.specs.Scan.{sleepable};
 ghost use Rattle.table_meaning.specs.Layout.{tables, extents};
-ghost use Rattle.table_meaning.specs.Decode.{worldOf, observedAt};
+ghost use Rattle.table_meaning.specs.Decode.{world_of, observed_at};
 ghost use Rattle.table_meaning.specs.Sound.{Sound};
 ghost use Rattle.core_finish.specs.Restful.{Wrote, restful};
 ghost use Rattle.core_finish.specs.Listing.{Finishes};
@@ -13,7 +13,7 @@ use table_meaning::{Table, word};
 // May the observed island i sleep: live, awake, always eligible, with count 0 or at most one body?
 fn may_sleep(t: &[u32], z: Sizes, i: u32) -> bool
     requires { Sound z t.now × (i < (extents (tables z t.now)).islands) }
-    ensures { result ≡ sleepable (worldOf z t.now) (observedAt (tables z t.now).fit i) }
+    ensures { result ≡ sleepable (world_of z t.now) (observed_at (tables z t.now).fit i) }
 {
     let fit = table_words::fit_word(t, z, i as usize);
     if fit != 1 {
@@ -63,7 +63,7 @@ fn count_restful(t: &[u32], z: Sizes) -> u32
 
 // The island e is written before the place k of out, if it may sleep; the place of what comes before it.
 fn write_one(t: &[u32], z: Sizes, out: &mut [u32], e: u32, k: usize) -> usize
-    requires { Sound z t.now × (e < (extents (tables z t.now)).islands) × (sleepable (worldOf z t.now) (observedAt (tables z t.now).fit e) ≡ true → (0 < k) × (k ≤ length out.old)) }
+    requires { Sound z t.now × (e < (extents (tables z t.now)).islands) × (sleepable (world_of z t.now) (observed_at (tables z t.now).fit e) ≡ true → (0 < k) × (k ≤ length out.old)) }
     ensures { Wrote z t.now e k result out.old out.new }
 {
     if !may_sleep(t, z, e) {

@@ -9,7 +9,7 @@ use borrow.Author.Tests.{not-true, not-false}
 use Rattle.list_in_table.specs.Rules.{none, Is}
 use Rattle.list_audit.proofs.Laws.{is-no, is-yes}
 use Rattle.def_kinds.specs.declared.Sizes.{Sizes}
-use Rattle.table_meaning.specs.Layout.{Tables, extents, joints-in}
+use Rattle.table_meaning.specs.Layout.{Tables, extents, joints_in}
 use Rattle.core_laws.specs.Places.{HasKey, LinkedAs, Finds}
 
 -- no place below p is linked with the key
@@ -21,10 +21,10 @@ module _ {Z : Sizes} {T : Tables} {kind a b c : ℕ} where
     pub keyed-other : not r ≡ true → Is false (LinkedAs Z T kind a b c p)
     keyed-other e = is-no (λ k. false≢true (sym (not-true r e) ∙ i.1 k.key))
 
-    pub keyed-unlinked : (joints-in Z T).home p ≡ none → Is false (LinkedAs Z T kind a b c p)
+    pub keyed-unlinked : (joints_in Z T).home p ≡ none → Is false (LinkedAs Z T kind a b c p)
     keyed-unlinked e = is-no (λ k. k.linked e)
 
-    pub keyed-yes : not r ≡ false → (joints-in Z T).home p ≢ none → Is true (LinkedAs Z T kind a b c p)
+    pub keyed-yes : not r ≡ false → (joints_in Z T).home p ≢ none → Is true (LinkedAs Z T kind a b c p)
     keyed-yes e h = is-yes (record { linked = h; key = i.0 (not-false r e) })
 
   pub none_passed : (n : ℕ) → Passed Z T kind a b c 0 n
@@ -34,7 +34,7 @@ module _ {Z : Sizes} {T : Tables} {kind a b c : ℕ} where
   one_more {p} o l i e = (omega arith, below_more (λ k. LinkedAs Z T kind a b c k → ⊥) p o.1 (λ k. false≢true (sym e ∙ i.1 k)))
 
   pub finds : {p n : ℕ} {r : Bool} → n ≡ (extents T).joints → p < n → Is r (LinkedAs Z T kind a b c p) → r ≡ true → Finds Z T kind a b c p
-  finds q l i e = inr (record { place-lt = omega arith; keyed = i.0 e })
+  finds q l i e = inr (record { place_lt = omega arith; keyed = i.0 e })
 
   pub finds-none : {p n r : ℕ} → r ≡ none → n ≡ (extents T).joints → Passed Z T kind a b c p n → n ≤ p → Finds Z T kind a b c r
   finds-none e q o l = inl (e, (λ k kl h. o.1 k (omega arith) h))

@@ -1,14 +1,14 @@
 // Joint links on sound tables: the place that has a key, a place for a new one, one link comes or goes, joint unlink.
 ghost use Rattle.std.specs.Prelude.{◌≡◌, ◌≢◌, ℕ, ◌+◌, ◌*◌, ◌<◌, ◌≤◌, length, get_or};
 ghost use Rattle.list_in_table.specs.Rules.{none, Is};
-ghost use Rattle.def_state.specs.Links.{sameHandle, jointRoom, unlink-joint};
-ghost use Rattle.table_meaning.specs.Layout.{tables, total, extents, members-in, joints-in, spare-in};
-ghost use Rattle.table_meaning.specs.Decode.{handleAt, key_of, worldOf};
+ghost use Rattle.def_state.specs.Links.{same_handle, joint_room, unlink_joint};
+ghost use Rattle.table_meaning.specs.Layout.{tables, total, extents, members_in, joints_in, spare_in};
+ghost use Rattle.table_meaning.specs.Decode.{handle_at, key_of, world_of};
 ghost use Rattle.table_meaning.specs.Sound.{Sound};
 ghost use Rattle.table_meaning.specs.Does.{Does};
 ghost use Rattle.core_laws.specs.Steps.{handle, Steps};
-ghost use Rattle.core_laws.specs.Linking.{journalled, place-ready, joint-push};
-ghost use Rattle.core_laws.specs.Places.{KeyRule, HasKey, LinkedAs, Unlinked, Finds, grow-place};
+ghost use Rattle.core_laws.specs.Linking.{journalled, place_ready, joint_push};
+ghost use Rattle.core_laws.specs.Places.{KeyRule, HasKey, LinkedAs, Unlinked, Finds, grow_place};
 ghost use Rattle.core_laws.specs.Loose.{Loosely, JointGone};
 
 use def_kinds::{Answer, NONE, Sizes};
@@ -73,7 +73,7 @@ pub fn find_place(t: &[u32], z: Sizes, kind: u32, a: u32, b: u32, c: u32) -> u32
 // How many joint links fit yet.
 pub fn joint_room(t: &[u32], z: Sizes) -> u32
     requires { Sound z t.now }
-    ensures { (result ≡ jointRoom z (worldOf z t.now)) × (z.joints ≤ none) }
+    ensures { (result ≡ joint_room z (world_of z t.now)) × (z.joints ≤ none) }
 {
     let in_use = table_words::get(t, z, Table::Head, word::JOINTS_USED);
     let spare = table_words::count(t, z, Table::Spare, 0);
@@ -83,7 +83,7 @@ pub fn joint_room(t: &[u32], z: Sizes) -> u32
 // The place p, the first that was never used, comes into use, free.
 pub fn grow_place(t: &mut [u32], z: Sizes, p: u32)
     requires { Sound z t.old × (p ≡ (extents (tables z t.old)).joints) × (p < z.joints) × (p < none) }
-    ensures { Steps z grow-place t.old t.new }
+    ensures { Steps z grow_place t.old t.new }
 {
     let i = p as usize;
     table_words::set4(t, z, Table::Keys, word::KEY * i, NONE, NONE, NONE, NONE);
@@ -105,8 +105,8 @@ pub fn grow_place(t: &mut [u32], z: Sizes, p: u32)
 
 // There is a free place: the next unused one comes in where none is free.
 pub fn ready_place(t: &mut [u32], z: Sizes)
-    requires { Sound z t.old × ((spare-in z (tables z t.old)).count 0 ≡ 0 → ((extents (tables z t.old)).joints < z.joints) × ((extents (tables z t.old)).joints < none)) }
-    ensures { Steps z place-ready t.old t.new }
+    requires { Sound z t.old × ((spare_in z (tables z t.old)).count 0 ≡ 0 → ((extents (tables z t.old)).joints < z.joints) × ((extents (tables z t.old)).joints < none)) }
+    ensures { Steps z place_ready t.old t.new }
 {
     let spare = table_words::count(t, z, Table::Spare, 0);
     if spare != 0 {
@@ -132,8 +132,8 @@ pub fn push_joint(
     s2: u32,
     g2: u32,
 )
-    requires { Sound z t.old × (0 < (spare-in z (tables z t.old)).count 0) × (i < (extents (tables z t.old)).islands) × (0 < (members-in z (tables z t.old)).count i) × KeyRule kind c × Unlinked z (tables z t.old) kind a b c }
-    ensures { Steps z (joint-push i (key_of kind a b c) (handle s1 g1) (handle s2 g2)) t.old t.new }
+    requires { Sound z t.old × (0 < (spare_in z (tables z t.old)).count 0) × (i < (extents (tables z t.old)).islands) × (0 < (members_in z (tables z t.old)).count i) × KeyRule kind c × Unlinked z (tables z t.old) kind a b c }
+    ensures { Steps z (joint_push i (key_of kind a b c) (handle s1 g1) (handle s2 g2)) t.old t.new }
 {
     let p = table_words::last(t, z, Table::Spare, 0);
     table_words::remove(t, z, Table::Spare, p);
@@ -153,7 +153,7 @@ pub fn push_joint(
 
 // The link at the place p goes, and the place is free.
 pub fn take_joint(t: &mut [u32], z: Sizes, p: u32)
-    requires { Loosely z t.old × (p < (extents (tables z t.old)).joints) × ((joints-in z (tables z t.old)).home p ≢ none) }
+    requires { Loosely z t.old × (p < (extents (tables z t.old)).joints) × ((joints_in z (tables z t.old)).home p ≢ none) }
     ensures { JointGone z p t.old t.new }
 {
     table_words::remove_joint(t, z, p);
@@ -173,7 +173,7 @@ pub fn take_joint(t: &mut [u32], z: Sizes, p: u32)
 // Does the link at the place p lead from a body to itself?
 fn same_ends(t: &[u32], z: Sizes, p: u32) -> bool
     requires { (length t.now ≡ total z) × (p < z.joints) }
-    ensures { result ≡ sameHandle (handleAt (tables z t.now).keys (8 * p + 4)) (handleAt (tables z t.now).keys (8 * p + 6)) }
+    ensures { result ≡ same_handle (handle_at (tables z t.now).keys (8 * p + 4)) (handle_at (tables z t.now).keys (8 * p + 6)) }
 {
     let first = word::KEY * (p as usize) + word::KEY_BODIES;
     let second = word::KEY * (p as usize) + word::KEY_SLOT2;
@@ -191,7 +191,7 @@ fn same_ends(t: &[u32], z: Sizes, p: u32) -> bool
 // unlink_joint, on sound tables.
 pub fn unlink_joint_on(t: &mut [u32], z: Sizes, kind: u32, a: u32, b: u32, c: u32) -> Answer
     requires { Sound z t.old × KeyRule kind c }
-    ensures { Does z (unlink-joint z (key_of kind a b c)) t.old result t.new }
+    ensures { Does z (unlink_joint z (key_of kind a b c)) t.old result t.new }
 {
     let p = find_place(t, z, kind, a, b, c);
     if p == NONE {

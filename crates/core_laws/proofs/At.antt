@@ -6,7 +6,7 @@ use lib.ListN.{length}
 use Rattle.def_kinds.specs.declared.Sizes.{Sizes}
 use Rattle.def_state.specs.World.{World, Step, done}
 use Rattle.table_meaning.specs.Layout.{Tables, tables, total, Extents, extents}
-use Rattle.table_meaning.specs.Decode.{decode, worldOf}
+use Rattle.table_meaning.specs.Decode.{decode, world_of}
 use Rattle.table_meaning.specs.Sound.{Good, Sound}
 use Rattle.table_meaning.specs.Does.{SameBehind}
 use Rattle.table_meaning.specs.Larger.{Larger}
@@ -17,7 +17,7 @@ use Rattle.core_laws.proofs.Then.{does-as}
 -- the tables of t' are W, with the extents Y
 pub steps-at : {Z : Sizes} {t : List ℕ} (t' : List ℕ) (f : World → World) (Y : Extents) (W : Tables) → tables Z t' ≡ W → extents W ≡ Y → length t' ≡ total Z → Good Z Y W
     → decode Z Y W ≡ f (decode Z (extents (tables Z t)) (tables Z t)) → SameBehind Z Y (tables Z t) W → Larger (extents (tables Z t)) Y → Steps Z (λ w. done (f w)) t t'
-unfolding worldOf
+unfolding world_of
 steps-at {Z} {t} t' f Y W e a l G d k h =
     record {
       does = record { sound = sound-at Z Y t' W e a l G; answer = refl; after = world-at Z Y t' W e a ∙ d; frame = kept_at Z Y t' W e a (tables Z t) k };
@@ -25,8 +25,8 @@ steps-at {Z} {t} t' f Y W e a l G d k h =
     }
 
 -- a step that leaves the state as it is
-pub steps-none : {Z : Sizes} {t : List ℕ} (f : World → World) → Sound Z t → f (worldOf Z t) ≡ worldOf Z t → Steps Z (λ w. done (f w)) t t
+pub steps-none : {Z : Sizes} {t : List ℕ} (f : World → World) → Sound Z t → f (world_of Z t) ≡ world_of Z t → Steps Z (λ w. done (f w)) t t
 steps-none {Z} {t} f S e = record { does = record { sound = S; answer = refl; after = sym e; frame = kept_refl }; larger = larger-refl (extents (tables Z t)) }
 
-pub steps-as : {Z : Sizes} {t u : List ℕ} (f g : World → Step) → f (worldOf Z t) ≡ g (worldOf Z t) → Steps Z f t u → Steps Z g t u
+pub steps-as : {Z : Sizes} {t u : List ℕ} (f g : World → Step) → f (world_of Z t) ≡ g (world_of Z t) → Steps Z f t u → Steps Z g t u
 steps-as f g e D = record { does = does-as f g e D.does; larger = D.larger }

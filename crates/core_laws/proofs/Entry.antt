@@ -10,9 +10,9 @@ use Rattle.list_in_table.specs.Word.{writes, miss, hit}
 use Rattle.list_in_buffer.specs.Part.{Put}
 use Rattle.def_kinds.specs.declared.Sizes.{Sizes}
 use Rattle.def_state.specs.World.{Removal}
-use Rattle.def_state.specs.Fields.{journal-set}
-use Rattle.table_meaning.specs.Layout.{Tables, tables, total, headAt, headLong, journalAt, journalLong, head-put, journal-put, Extents, extents}
-use Rattle.table_meaning.specs.Decode.{flag, removalAt, tabulate, decode}
+use Rattle.def_state.specs.Fields.{journal_set}
+use Rattle.table_meaning.specs.Layout.{Tables, tables, total, head_at, head_span, journal_at, journal_span, head_put, journal_put, Extents, extents}
+use Rattle.table_meaning.specs.Decode.{flag, removal_at, tabulate, decode}
 use Rattle.table_meaning.specs.Sound.{Good, Sound}
 use Rattle.table_meaning.specs.Does.{SameBehind}
 use Rattle.table_meaning.proofs.Puts.{Sized, sized, put-head, put-journal}
@@ -22,7 +22,7 @@ use Rattle.core_laws.specs.Steps.{handle, Steps}
 use Rattle.core_laws.specs.Linking.{journalled}
 use Rattle.core_laws.proofs.Good.{world_is, head-rule}
 use Rattle.core_laws.proofs.At.{steps-at}
-use Rattle.core_laws.proofs.OneContact.{touchWords}
+use Rattle.core_laws.proofs.OneContact.{touch_words}
 
 removal-is : {a a' b b' c c' d d' : ℕ} → a ≡ a' → b ≡ b' → c ≡ c' → d ≡ d'
     → ◌≡◌ {A = Removal} (record { body1 = record { slot = a; generation = b }; body2 = record { slot = c; generation = d } })
@@ -40,19 +40,19 @@ module _ (Z : Sizes) (X : Extents) (T : Tables) (G : Good Z X T) (K : Sized Z T)
   l = X.journal
 
   abbrev J : List ℕ
-  J = writes T.journal (touchWords (4 * l) a b c d)
+  J = writes T.journal (touch_words (4 * l) a b c d)
 
   abbrev H : List ℕ
   H = set T.head 4 (l + 1)
 
   abbrev T' : Tables
-  T' = head-put (journal-put T J) H
+  T' = head_put (journal_put T J) H
 
   head-o : (j : ℕ) → j ≢ 4 → get_or H j 0 ≡ get_or T.head j 0
   head-o j n = get_or-set_other T.head 4 j (l + 1) 0 n
 
   head-4 : get_or H 4 0 ≡ l + 1
-  head-4 = let k = K.head-length in get_or-set_same T.head 4 (l + 1) 0 (omega arith)
+  head-4 = let k = K.head_length in get_or-set_same T.head 4 (l + 1) 0 (omega arith)
 
   after : extents T ≡ X → extents T' ≡ one_entry X
   after e =
@@ -63,17 +63,17 @@ module _ (Z : Sizes) (X : Extents) (T : Tables) (G : Good Z X T) (K : Sized Z T)
   entry-good =
       record {
         enough = G.enough;
-        slots-le = G.slots-le;
-        islands-le = G.islands-le;
+        slots_le = G.slots_le;
+        islands_le = G.islands_le;
         edges_le = G.edges_le;
-        joints-le = G.joints-le;
-        journal-le = omega arith;
-        members-wf = G.members-wf;
-        freed-wf = G.freed-wf;
-        contacts-wf = G.contacts-wf;
-        joints-wf = G.joints-wf;
-        spare-wf = G.spare-wf;
-        scan-wf = G.scan-wf;
+        joints_le = G.joints_le;
+        journal_le = omega arith;
+        members_wf = G.members_wf;
+        freed_wf = G.freed_wf;
+        contacts_wf = G.contacts_wf;
+        joints_wf = G.joints_wf;
+        spare_wf = G.spare_wf;
+        scan_wf = G.scan_wf;
         slot = G.slot;
         island = G.island;
         seen = G.seen;
@@ -84,12 +84,12 @@ module _ (Z : Sizes) (X : Extents) (T : Tables) (G : Good Z X T) (K : Sized Z T)
       }
 
   old : (j : ℕ) → j < 4 * l → get_or J j 0 ≡ get_or T.journal j 0
-  old j n = miss T.journal (touchWords (4 * l) a b c d) j (omega arith)
+  old j n = miss T.journal (touch_words (4 * l) a b c d) j (omega arith)
 
   room : 4 * l + 3 < length T.journal
-  room = let k = K.journal-length in omega arith
+  room = let k = K.journal_length in omega arith
 
-  new : removalAt J l ≡ removal a b c d
+  new : removal_at J l ≡ removal a b c d
   new =
       let j = 4 * l in
       let q : j + 2 + 1 ≡ j + 3 = omega arith in
@@ -99,26 +99,26 @@ module _ (Z : Sizes) (X : Extents) (T : Tables) (G : Good Z X T) (K : Sized Z T)
       (hit T.journal ((j, a) ∷ (j + 1, b) ∷ []) (j + 2) c ((j + 3, d) ∷ []) (omega arith) (omega arith))
       (ap (λ (k : ℕ). get_or J k 0) q ∙ hit T.journal ((j, a) ∷ (j + 1, b) ∷ (j + 2, c) ∷ []) (j + 3) d [] (omega arith) (omega arith))
 
-  entries : tabulate (l + 1) (removalAt J) ≡ tabulate l (removalAt T.journal) ++ (removal a b c d ∷ [])
+  entries : tabulate (l + 1) (removal_at J) ≡ tabulate l (removal_at T.journal) ++ (removal a b c d ∷ [])
   unfolding tabulate
   entries =
       let e : l + 1 ≡ suc l = omega arith in
-      ap (λ (k : ℕ). tabulate k (removalAt J)) e
+      ap (λ (k : ℕ). tabulate k (removal_at J)) e
       ∙ rw (
-        tabulate-same l (removalAt J) (removalAt T.journal)
+        tabulate-same l (removal_at J) (removal_at T.journal)
             (λ k n. removal-is (old (4 * k) (omega arith)) (old (4 * k + 1) (omega arith)) (old (4 * k + 2) (omega arith)) (old (4 * k + 2 + 1) (omega arith))),
         new,
       )
 
-  entry-world : decode Z (one_entry X) T' ≡ journal-set (decode Z X T) ((decode Z X T).removal-journal ++ (removal a b c d ∷ []))
+  entry-world : decode Z (one_entry X) T' ≡ journal_set (decode Z X T) ((decode Z X T).removal_journal ++ (removal a b c d ∷ []))
   entry-world =
       world_is refl refl refl refl refl refl entries (rw (head-o 5 (omega arith), head-o 6 (omega arith))) (head-o 7 (omega arith)) (ap flag (head-o 8 (omega arith))) refl
 
   entry_kept : SameBehind Z (one_entry X) T T'
-  entry_kept = kept_then (larger-refl (one_entry X)) (kept-journal (λ j n. miss T.journal (touchWords (4 * l) a b c d) j (omega arith))) kept-head
+  entry_kept = kept_then (larger-refl (one_entry X)) (kept-journal (λ j n. miss T.journal (touch_words (4 * l) a b c d) j (omega arith))) kept-head
 
 pub entered : {Z : Sizes} {t t1 t2 : List ℕ} (l a b c d : ℕ) → Sound Z t → l ≡ (extents (tables Z t)).journal → l < Z.journal
-    → Put (journalAt Z) (journalLong Z) t t1 (writes (tables Z t).journal (touchWords (4 * l) a b c d)) → Put (headAt Z) (headLong Z) t1 t2 (set (tables Z t1).head 4 (l + 1))
+    → Put (journal_at Z) (journal_span Z) t t1 (writes (tables Z t).journal (touch_words (4 * l) a b c d)) → Put (head_at Z) (head_span Z) t1 t2 (set (tables Z t1).head 4 (l + 1))
     → Steps Z (journalled (handle a b) (handle c d)) t t2
 unfolding journalled
 entered {Z} {t} {t1} {t2} l a b c d S q h P Q =
@@ -128,9 +128,9 @@ entered {Z} {t} {t1} {t2} l a b c d S q h P Q =
     let K = sized Z t S.long in
     let h1 : length t1 ≡ total Z = P.same_length ∙ S.long in
     let hx : X.journal < Z.journal = omega arith in
-    let e2 = put-head Z t1 t2 _ h1 Q ∙ ap (λ (W : Tables). head-put W (set W.head 4 (l + 1))) (put-journal Z t t1 _ S.long P) in
+    let e2 = put-head Z t1 t2 _ h1 Q ∙ ap (λ (W : Tables). head_put W (set W.head 4 (l + 1))) (put-journal Z t t1 _ S.long P) in
     let e : tables Z t2 ≡ T' Z X T G K hx a b c d = rw q at e2 in
-    steps-at t2 (λ w. journal-set w (w.removal-journal ++ (removal a b c d ∷ []))) (one_entry X) _ e (after Z X T G K hx a b c d refl) (Q.same_length ∙ h1) (entry-good Z X T G K hx a b c d)
+    steps-at t2 (λ w. journal_set w (w.removal_journal ++ (removal a b c d ∷ []))) (one_entry X) _ e (after Z X T G K hx a b c d refl) (Q.same_length ∙ h1) (entry-good Z X T G K hx a b c d)
     (entry-world Z X T G K hx a b c d)
     (entry_kept Z X T G K hx a b c d)
     (record { slots = omega arith; islands = omega arith; edges = omega arith; joints = omega arith; journal = omega arith })

@@ -18,8 +18,8 @@ pub body_is : {g g' l l' : ℕ} {f f' e e' z z' : Bool} → g ≡ g' → l ≡ l
 body_is p q r s t = rw (p, q, r, s, t)
 
 pub island-is : {b b' : List ℕ} {c c' : List ContactLink} {j j' : List JointLink} {r r' d d' : ℕ} {z z' : Bool} → b ≡ b' → c ≡ c' → j ≡ j' → r ≡ r' → d ≡ d' → z ≡ z'
-    → ◌≡◌ {A = Island} (record { bodies = b; contact-links = c; joint-links = j; constraint-remove-count = r; split-denied-until = d; sleeping = z })
-    (record { bodies = b'; contact-links = c'; joint-links = j'; constraint-remove-count = r'; split-denied-until = d'; sleeping = z' })
+    → ◌≡◌ {A = Island} (record { bodies = b; contact_links = c; joint_links = j; constraint_remove_count = r; split_denied_until = d; sleeping = z })
+    (record { bodies = b'; contact_links = c'; joint_links = j'; constraint_remove_count = r'; split_denied_until = d'; sleeping = z' })
 island-is p q r s t u = rw (p, q, r, s, t, u)
 
 pub world_is : {b b' : List Body} {i i' : List Island} {f f' : List ℕ} {e e' p p' : ℕ} {q q' : List ℕ} {j j' : List Removal} {s s' : Option ℕ} {t t' : ℕ} {o o' : Bool} {l l' : List Observed}
@@ -28,28 +28,28 @@ pub world_is : {b b' : List Body} {i i' : List Island} {f f' : List ℕ} {e e' p
     (record {
       bodies = b;
       islands = i;
-      free-islands = f;
+      free_islands = f;
       tracked = e;
-      joint-places = p;
-      free-places = q;
-      removal-journal = j;
-      split-island = s;
-      sleep-scan-stamp = t;
+      joint_places = p;
+      free_places = q;
+      removal_journal = j;
+      split_island = s;
+      sleep_scan_stamp = t;
       scanning = o;
-      sleep-scan-touched = l;
+      sleep_scan_touched = l;
     })
     (record {
       bodies = b';
       islands = i';
-      free-islands = f';
+      free_islands = f';
       tracked = e';
-      joint-places = p';
-      free-places = q';
-      removal-journal = j';
-      split-island = s';
-      sleep-scan-stamp = t';
+      joint_places = p';
+      free_places = q';
+      removal_journal = j';
+      split_island = s';
+      sleep_scan_stamp = t';
       scanning = o';
-      sleep-scan-touched = l';
+      sleep_scan_touched = l';
     })
 world_is a b c d e f g h i j k = rw (a, b, c, d, e, f, g, h, i, j, k)
 

@@ -6,15 +6,15 @@ use Prim.Native.Nat.{ℕ, zero, suc, ◌+◌, ◌-◌, ◌*◌, ◌≤◌, ◌<�
 use native.Mathlib.Omega.{arith}
 use lib.ListN.{length, get_or, set, take, length-append}
 use lib.Seq.{take-suc, take-length, take_at, get_or_at, set-get_or}
-use Rattle.list_in_table.specs.Rules.{none, View, Rules, Full, list_of, swapRemove}
+use Rattle.list_in_table.specs.Rules.{none, View, Rules, Full, list_of, swap_remove}
 use Rattle.list_in_table.specs.Word.{writes, hit}
 use Rattle.list_in_table.specs.Table.{view, Wf, removed, RemoveReady}
 use Rattle.list_in_table.proofs.Laws.{either, full}
 use Rattle.list_in_table.proofs.Order.{length-list, list_at, list-of}
 use Rattle.def_state.specs.Plain.{drop_last, last_of}
-use Rattle.table_meaning.specs.Layout.{elemWords}
+use Rattle.table_meaning.specs.Layout.{elem_words}
 use Rattle.table_meaning.specs.Does.{ChainKept}
-use Rattle.table_meaning.proofs.Chains.{nil, taken, remove-ready}
+use Rattle.table_meaning.proofs.Chains.{nil, taken, remove_ready}
 
 -- ---- a list and its last
 module _ {A : Type 0} where
@@ -49,19 +49,19 @@ module _ {A : Type 0} where
 -- ---- the element e was the last of the list i
 pub record Popped (N n m i e : ℕ) (x y : List ℕ) : Type 0 where
   pub wf : Wf y 0 (4 * N) n m
-  pub list-i : list_of (view x 0 (4 * N)) i ≡ list_of (view y 0 (4 * N)) i ++ (e ∷ [])
-  pub list-o : (j : ℕ) → j < m → j ≢ i → list_of (view y 0 (4 * N)) j ≡ list_of (view x 0 (4 * N)) j
-  pub home-e : (view y 0 (4 * N)).home e ≡ none
-  pub home-o : (k : ℕ) → k < n → k ≢ e → (view y 0 (4 * N)).home k ≡ (view x 0 (4 * N)).home k
-  pub count-i : (view y 0 (4 * N)).count i + 1 ≡ (view x 0 (4 * N)).count i
-  pub count-o : (j : ℕ) → j < m → j ≢ i → (view y 0 (4 * N)).count j ≡ (view x 0 (4 * N)).count j
+  pub list_i : list_of (view x 0 (4 * N)) i ≡ list_of (view y 0 (4 * N)) i ++ (e ∷ [])
+  pub list_o : (j : ℕ) → j < m → j ≢ i → list_of (view y 0 (4 * N)) j ≡ list_of (view x 0 (4 * N)) j
+  pub home_e : (view y 0 (4 * N)).home e ≡ none
+  pub home_o : (k : ℕ) → k < n → k ≢ e → (view y 0 (4 * N)).home k ≡ (view x 0 (4 * N)).home k
+  pub count_i : (view y 0 (4 * N)).count i + 1 ≡ (view x 0 (4 * N)).count i
+  pub count_o : (j : ℕ) → j < m → j ≢ i → (view y 0 (4 * N)).count j ≡ (view x 0 (4 * N)).count j
   pub kept : ChainKept N n m x y
 
 -- what taking it out asks
 pub record LastIn (N n i e : ℕ) (x : List ℕ) : Type 0 where
-  pub elem-lt : e < n
-  pub room-lt : e < N
-  pub home-is : (view x 0 (4 * N)).home e ≡ i
+  pub elem_lt : e < n
+  pub room_lt : e < N
+  pub home_is : (view x 0 (4 * N)).home e ≡ i
   pub held : (view x 0 (4 * N)).home e ≢ none
   pub ready : RemoveReady x 0 (4 * N) e
 
@@ -72,49 +72,49 @@ module _ (N n m : ℕ) (x : List ℕ) (w : Wf x 0 (4 * N) n m) (i e : ℕ) (il :
   F : Full n m S i
   F = full w.rules i il (omega arith)
 
-  last-lt : e < n
-  last-lt = rw q F.last-lt
+  last_lt : e < n
+  last_lt = rw q F.last_lt
 
-  last-home : S.home e ≡ i
-  last-home = rw q F.last-home
+  last_home : S.home e ≡ i
+  last_home = rw q F.last_home
 
   last-held : S.home e ≢ none
-  last-held = let h = last-home in let s = w.rules.m-small in omega arith
+  last-held = let h = last_home in let s = w.rules.m_small in omega arith
 
   pub last-in : LastIn N n i e x
   last-in =
       record {
-        elem-lt = last-lt;
-        room-lt = (let a = last-lt in let b = w.elems-below in omega arith);
-        home-is = last-home;
+        elem_lt = last_lt;
+        room_lt = (let a = last_lt in let b = w.elems_below in omega arith);
+        home_is = last_home;
         held = last-held;
-        ready = remove-ready N w e last-lt last-held;
+        ready = remove_ready N w e last_lt last-held;
       }
 
-  pub last-place : S.place e ≡ length (list_of S i) - 1
-  last-place = let a : S.place e + 1 ≡ S.count i = rw q F.last-place in let b = length-list w.rules i il in omega arith
+  pub last_place : S.place e ≡ length (list_of S i) - 1
+  last_place = let a : S.place e + 1 ≡ S.count i = rw q F.last_place in let b = length-list w.rules i il in omega arith
 
   last-of : last_of 0 (list_of S i) ≡ e
-  last-of = ap (λ (k : ℕ). get_or (list_of S i) k 0) (sym last-place) ∙ list-of w.rules i il e last-lt last-home
+  last-of = ap (λ (k : ℕ). get_or (list_of S i) k 0) (sym last_place) ∙ list-of w.rules i il e last_lt last_home
 
-  swap-last : (xs : List ℕ) (p : ℕ) → p ≡ length xs - 1 → swapRemove xs p ≡ drop_last xs
-  unfolding swapRemove
+  swap-last : (xs : List ℕ) (p : ℕ) → p ≡ length xs - 1 → swap_remove xs p ≡ drop_last xs
+  unfolding swap_remove
   swap-last xs p h = rw h (ap (λ (ys : List ℕ). take (length xs - 1) ys) (set-get_or xs (length xs - 1) 0))
 
   pub popped : Popped N n m i e x (removed x 0 (4 * N) e)
   popped =
       let y = removed x 0 (4 * N) e in
-      let D = taken N n m x w e last-lt last-held in
-      let h = last-home in
-      let l : list_of (view y 0 (4 * N)) i ≡ drop_last (list_of S i) = (rw h at D.list-e) ∙ swap-last (list_of S i) (S.place e) last-place in
+      let D = taken N n m x w e last_lt last-held in
+      let h = last_home in
+      let l : list_of (view y 0 (4 * N)) i ≡ drop_last (list_of S i) = (rw h at D.list_e) ∙ swap-last (list_of S i) (S.place e) last_place in
       record {
         wf = D.wf;
-        list-i = snoc 0 (list_of S i) (rw (length-list w.rules i il) c) ∙ rw (l, last-of);
-        list-o = λ j jl d. D.list-o j jl (λ a. d (a ∙ h));
-        home-e = D.home-e;
-        home-o = D.home-o;
-        count-i = rw h at D.count-i;
-        count-o = λ j jl d. D.count-o j jl (λ a. d (a ∙ h));
+        list_i = snoc 0 (list_of S i) (rw (length-list w.rules i il) c) ∙ rw (l, last-of);
+        list_o = λ j jl d. D.list_o j jl (λ a. d (a ∙ h));
+        home_e = D.home_e;
+        home_o = D.home_o;
+        count_i = rw h at D.count_i;
+        count_o = λ j jl d. D.count_o j jl (λ a. d (a ∙ h));
         kept = D.kept;
       }
 
@@ -124,21 +124,21 @@ still {S} R e he f g same j jl =
     map_same f g (list_of S j)
     (λ p l.
     let k = get_or (list_of S j) p 0 in
-    let a : S.home k ≡ j = (list_at R j jl p (rw (length-list R j jl) at l)).home-is in
-    same k (λ d. let b : S.home k ≡ none = ap S.home d ∙ he in let s = R.m-small in omega arith))
+    let a : S.home k ≡ j = (list_at R j jl p (rw (length-list R j jl) at l)).home_is in
+    same k (λ d. let b : S.home k ≡ none = ap S.home d ∙ he in let s = R.m_small in omega arith))
 
 module _ {A : Type 0} {N n m i e : ℕ} {x y : List ℕ} (P : Popped N n m i e x y) (f g : ℕ → A) (same : (k : ℕ) → k ≢ e → f k ≡ g k) where
   stay : (j : ℕ) → j < m → map f (list_of (view y 0 (4 * N)) j) ≡ map g (list_of (view y 0 (4 * N)) j)
-  stay = still P.wf.rules e P.home-e f g same
+  stay = still P.wf.rules e P.home_e f g same
 
   pub values-i : i < m → map g (list_of (view x 0 (4 * N)) i) ≡ map f (list_of (view y 0 (4 * N)) i) ++ (g e ∷ [])
-  values-i il = ap (map g) P.list-i ∙ map-append g (list_of (view y 0 (4 * N)) i) (e ∷ []) ∙ ap (λ (l : List A). l ++ (g e ∷ [])) (sym (stay i il))
+  values-i il = ap (map g) P.list_i ∙ map-append g (list_of (view y 0 (4 * N)) i) (e ∷ []) ∙ ap (λ (l : List A). l ++ (g e ∷ [])) (sym (stay i il))
 
   pub values-o : (j : ℕ) → j < m → j ≢ i → map f (list_of (view y 0 (4 * N)) j) ≡ map g (list_of (view x 0 (4 * N)) j)
-  values-o j jl d = stay j jl ∙ ap (map g) (P.list-o j jl d)
+  values-o j jl d = stay j jl ∙ ap (map g) (P.list_o j jl d)
 
 -- ---- four words are blanked
-pub blanked : (x : List ℕ) (a j : ℕ) → a + 3 < length x → a ≤ j → j < a + 4 → get_or (writes x (elemWords a)) j 0 ≡ none
+pub blanked : (x : List ℕ) (a j : ℕ) → a + 3 < length x → a ≤ j → j < a + 4 → get_or (writes x (elem_words a)) j 0 ≡ none
 blanked x a j l b h =
     either j a (λ q. rw q (hit x [] a none ((a + 1, none) ∷ (a + 2, none) ∷ (a + 3, none) ∷ []) (omega arith) (omega arith)))
     (λ d0. either j (a + 1) (λ q. rw q (hit x ((a, none) ∷ []) (a + 1) none ((a + 2, none) ∷ (a + 3, none) ∷ []) (omega arith) (omega arith)))

@@ -12,17 +12,17 @@ use Rattle.list_in_table.proofs.Laws.{either}
 use Rattle.list_in_table.proofs.Order.{length-list}
 use Rattle.def_kinds.specs.declared.Sizes.{Sizes}
 use Rattle.def_kinds.specs.declared.Answer.TheVariants.{Done, Nothing, JointsFull}
-use Rattle.def_state.specs.World.{Handle, Key, Island, noIsland, World, Step, done, gives, islandAt, body-island}
-use Rattle.def_state.specs.Links.{jointHome, jointBelow, survivor, merge-islands, target, merged, joint-pushed, newPlace, take-place, jointRoom, link-joint}
-use Rattle.table_meaning.specs.Layout.{Tables, tables, Extents, extents, members-in, joints-in}
-use Rattle.table_meaning.specs.Decode.{islandIn, key_of, worldOf}
+use Rattle.def_state.specs.World.{Handle, Key, Island, absent_island, World, Step, done, gives, island_at, body_island}
+use Rattle.def_state.specs.Links.{joint_home, joint_below, survivor, merge_islands, target, merged, joint_pushed, new_place, take_place, joint_room, link_joint}
+use Rattle.table_meaning.specs.Layout.{Tables, tables, Extents, extents, members_in, joints_in}
+use Rattle.table_meaning.specs.Decode.{island_in, key_of, world_of}
 use Rattle.table_meaning.specs.Sound.{Sound}
 use Rattle.table_meaning.specs.Does.{Does}
 use Rattle.table_meaning.proofs.Unique.{islands-is}
 use Rattle.table_meaning.proofs.Frame.{kept_then}
 use Rattle.core_laws.specs.Steps.{Steps}
 use Rattle.core_laws.specs.Lives.{Lives}
-use Rattle.core_laws.specs.Linking.{place-ready, joint-hold}
+use Rattle.core_laws.specs.Linking.{place_ready, joint_hold}
 use Rattle.core_laws.specs.Merging.{LinksStay, MergeDone}
 use Rattle.core_laws.specs.Places.{HasKey, LinkedAs, Unlinked}
 use Rattle.core_laws.proofs.Names.{island-at}
@@ -30,59 +30,59 @@ use Rattle.core_laws.proofs.GrowPlace.{place-is-ready}
 use Rattle.core_laws.proofs.Link.{target_none, target-second, merged-second, target_first, merged-first, target-both, merged-both, survivor-same, joint-new, merged-hold}
 
 -- an island's count is the length of its list in the state
-count-is : {Z : Sizes} {t : List ℕ} (i : ℕ) → Sound Z t → i < (extents (tables Z t)).islands → (members-in Z (tables Z t)).count i ≡ length (islandAt (worldOf Z t) i).bodies
-unfolding worldOf
-count-is {Z} {t} i S l =
-    sym (length-list S.good.members-wf.rules i l) ∙ ap (λ (a : Island). length a.bodies) (sym (island-at Z (extents (tables Z t)) (tables Z t) i l))
+count_is : {Z : Sizes} {t : List ℕ} (i : ℕ) → Sound Z t → i < (extents (tables Z t)).islands → (members_in Z (tables Z t)).count i ≡ length (island_at (world_of Z t) i).bodies
+unfolding world_of
+count_is {Z} {t} i S l =
+    sym (length-list S.good.members_wf.rules i l) ∙ ap (λ (a : Island). length a.bodies) (sym (island-at Z (extents (tables Z t)) (tables Z t) i l))
 
 -- where the islands are the same, a live one is live
-lives-same : {Z : Sizes} {t u : List ℕ} (i : ℕ) → Sound Z t → Sound Z u → (worldOf Z u).islands ≡ (worldOf Z t).islands → Lives Z t i → Lives Z u i
+lives-same : {Z : Sizes} {t u : List ℕ} (i : ℕ) → Sound Z t → Sound Z u → (world_of Z u).islands ≡ (world_of Z t).islands → Lives Z t i → Lives Z u i
 lives-same {Z} {t} {u} i S R e A =
-    let x : length (worldOf Z u).islands ≡ length (worldOf Z t).islands = ap length e in
+    let x : length (world_of Z u).islands ≡ length (world_of Z t).islands = ap length e in
     let a = islands-is Z t in
     let b = islands-is Z u in
     let l : i < (extents (tables Z u)).islands = (let c = A.in_use in omega arith) in
     record {
       in_use = l;
-      some = λ z. A.some (count-is i S A.in_use ∙ ap (λ (is : List Island). length (get_or is i noIsland).bodies) (sym e) ∙ sym (count-is i R l) ∙ z);
+      some = λ z. A.some (count_is i S A.in_use ∙ ap (λ (is : List Island). length (get_or is i absent_island).bodies) (sym e) ∙ sym (count_is i R l) ∙ z);
     }
 
 -- after a place was made ready, the island is live, and the key is not linked
-pub ready-lives : {Z : Sizes} {t u : List ℕ} (i : ℕ) → Sound Z t → Steps Z place-ready t u → Lives Z t i → Lives Z u i
+pub ready-lives : {Z : Sizes} {t u : List ℕ} (i : ℕ) → Sound Z t → Steps Z place_ready t u → Lives Z t i → Lives Z u i
 ready-lives i S A L = lives-same i S A.does.sound (place-is-ready A).islands L
 
-pub ready-home : {Z : Sizes} {t u : List ℕ} (q : Key) → Steps Z place-ready t u → jointHome (worldOf Z u) q ≡ jointHome (worldOf Z t) q
-unfolding jointHome
-ready-home q A = ap (λ (is : List Island). jointBelow is q (length is)) (place-is-ready A).islands
+pub ready-home : {Z : Sizes} {t u : List ℕ} (q : Key) → Steps Z place_ready t u → joint_home (world_of Z u) q ≡ joint_home (world_of Z t) q
+unfolding joint_home
+ready-home q A = ap (λ (is : List Island). joint_below is q (length is)) (place-is-ready A).islands
 
 -- a merge links no key that was not linked
 pub merge-unlinked : {Z : Sizes} {T U : Tables} {kind a b c : ℕ} → LinksStay Z T U → Unlinked Z T kind a b c → Unlinked Z U kind a b c
 merge-unlinked {Z} {T} {U} S n p l k =
-    let lt : p < (extents T).joints = subst (λ (X : Extents). p < X.joints) S.extents-same l in
+    let lt : p < (extents T).joints = subst (λ (X : Extents). p < X.joints) S.extents_same l in
     n p lt
     (record {
-      linked = λ e. k.linked (S.joint-none p lt e);
+      linked = λ e. k.linked (S.joint_none p lt e);
       key =
           record {
-            kind-is = ap (λ (x : List ℕ). get_or x (8 * p) 0) (sym S.keys) ∙ k.key.kind-is;
-            a-is = ap (λ (x : List ℕ). get_or x (8 * p + 1) 0) (sym S.keys) ∙ k.key.a-is;
-            b-is = ap (λ (x : List ℕ). get_or x (8 * p + 2) 0) (sym S.keys) ∙ k.key.b-is;
-            c-is = ap (λ (x : List ℕ). get_or x (8 * p + 3) 0) (sym S.keys) ∙ k.key.c-is;
+            kind_is = ap (λ (x : List ℕ). get_or x (8 * p) 0) (sym S.keys) ∙ k.key.kind_is;
+            a_is = ap (λ (x : List ℕ). get_or x (8 * p + 1) 0) (sym S.keys) ∙ k.key.a_is;
+            b_is = ap (λ (x : List ℕ). get_or x (8 * p + 2) 0) (sym S.keys) ∙ k.key.b_is;
+            c_is = ap (λ (x : List ℕ). get_or x (8 * p + 3) 0) (sym S.keys) ∙ k.key.c_is;
           };
     })
 
 -- ---- the call, from the one or two steps
-module _ (Z : Sizes) (t : List ℕ) (q : Key) (h1 h2 : Handle) (n : jointHome (worldOf Z t) q ≡ none) (r : jointRoom Z (worldOf Z t) ≢ 0) where
+module _ (Z : Sizes) (t : List ℕ) (q : Key) (h1 h2 : Handle) (n : joint_home (world_of Z t) q ≡ none) (r : joint_room Z (world_of Z t) ≢ 0) where
   abbrev w : World
-  w = worldOf Z t
+  w = world_of Z t
 
-  held : {t1 : List ℕ} (i : ℕ) → target w h1 h2 ≡ i → i ≢ none → merged h1 h2 w ≡ w → Steps Z (joint-hold i q h1 h2) t t1 → Does Z (link-joint Z q h1 h2) t Done t1
-  unfolding joint-hold
+  held : {t1 : List ℕ} (i : ℕ) → target w h1 h2 ≡ i → i ≢ none → merged h1 h2 w ≡ w → Steps Z (joint_hold i q h1 h2) t t1 → Does Z (link_joint Z q h1 h2) t Done t1
+  unfolding joint_hold
   held i g d m B =
-      let e : link-joint Z q h1 h2 w ≡ joint-hold i q h1 h2 w =
+      let e : link_joint Z q h1 h2 w ≡ joint_hold i q h1 h2 w =
       joint-new Z q h1 h2 w n (λ x. d (sym g ∙ x)) r
-      ∙ ap (λ (k : ℕ). done (joint-pushed k (record { place = newPlace w; key = q; body1 = h1; body2 = h2 }) (take-place (merged h1 h2 w)))) g
-      ∙ ap (λ (v : World). done (joint-pushed i (record { place = newPlace w; key = q; body1 = h1; body2 = h2 }) (take-place v))) m in
+      ∙ ap (λ (k : ℕ). done (joint_pushed k (record { place = new_place w; key = q; body1 = h1; body2 = h2 }) (take_place (merged h1 h2 w)))) g
+      ∙ ap (λ (v : World). done (joint_pushed i (record { place = new_place w; key = q; body1 = h1; body2 = h2 }) (take_place v))) m in
       record {
         sound = B.does.sound;
         answer = sym (ap (λ (x : Step). x.answer) e);
@@ -90,31 +90,31 @@ module _ (Z : Sizes) (t : List ℕ) (q : Key) (h1 h2 : Handle) (n : jointHome (w
         frame = B.does.frame;
       }
 
-  pub joint-second : {t1 : List ℕ} (b : ℕ) → body-island w h1 ≡ none → b ≡ body-island w h2 → b ≢ none → Steps Z (joint-hold b q h1 h2) t t1 → Does Z (link-joint Z q h1 h2) t Done t1
+  pub joint-second : {t1 : List ℕ} (b : ℕ) → body_island w h1 ≡ none → b ≡ body_island w h2 → b ≢ none → Steps Z (joint_hold b q h1 h2) t t1 → Does Z (link_joint Z q h1 h2) t Done t1
   joint-second b p e d B = held b (target-second w h1 h2 p ∙ sym e) d (merged-second w h1 h2 p) B
 
-  pub joint-first : {t1 : List ℕ} (a : ℕ) → a ≡ body-island w h1 → a ≢ none → body-island w h2 ≡ none → Steps Z (joint-hold a q h1 h2) t t1 → Does Z (link-joint Z q h1 h2) t Done t1
+  pub joint-first : {t1 : List ℕ} (a : ℕ) → a ≡ body_island w h1 → a ≢ none → body_island w h2 ≡ none → Steps Z (joint_hold a q h1 h2) t t1 → Does Z (link_joint Z q h1 h2) t Done t1
   joint-first a p d e B =
-      let an : body-island w h1 ≢ none = λ x. d (p ∙ x) in
+      let an : body_island w h1 ≢ none = λ x. d (p ∙ x) in
       held a (target_first w h1 h2 an e ∙ sym p) d (merged-first w h1 h2 an e) B
 
-  pub joint-both : {t1 t2 : List ℕ} (a b i : ℕ) → a ≡ body-island w h1 → a ≢ none → b ≡ body-island w h2 → b ≢ none → i ≢ none → MergeDone Z a b t i t1
-      → Steps Z (joint-hold i q h1 h2) t1 t2 → Does Z (link-joint Z q h1 h2) t Done t2
-  unfolding joint-hold
+  pub joint-both : {t1 t2 : List ℕ} (a b i : ℕ) → a ≡ body_island w h1 → a ≢ none → b ≡ body_island w h2 → b ≢ none → i ≢ none → MergeDone Z a b t i t1
+      → Steps Z (joint_hold i q h1 h2) t1 t2 → Does Z (link_joint Z q h1 h2) t Done t2
+  unfolding joint_hold
   joint-both a b i p ad e bd id M B =
-      let an : body-island w h1 ≢ none = λ x. ad (p ∙ x) in
-      let bn : body-island w h2 ≢ none = λ x. bd (e ∙ x) in
+      let an : body_island w h1 ≢ none = λ x. ad (p ∙ x) in
+      let bn : body_island w h2 ≢ none = λ x. bd (e ∙ x) in
       let g : target w h1 h2 ≡ i =
-      target-both w h1 h2 an bn ∙ ap (λ (k : ℕ). survivor w k (body-island w h2)) (sym p) ∙ ap (λ (k : ℕ). survivor w a k) (sym e) ∙ sym (survivor-same w a b) ∙ sym M.survivor in
-      let m : merged h1 h2 w ≡ merge-islands a b w =
-      merged-both w h1 h2 an bn ∙ ap (λ (k : ℕ). merge-islands k (body-island w h2) w) (sym p) ∙ ap (λ (k : ℕ). merge-islands a k w) (sym e) in
-      let f : link-joint Z q h1 h2 w ≡ done (joint-pushed i (record { place = newPlace w; key = q; body1 = h1; body2 = h2 }) (take-place (merge-islands a b w))) =
+      target-both w h1 h2 an bn ∙ ap (λ (k : ℕ). survivor w k (body_island w h2)) (sym p) ∙ ap (λ (k : ℕ). survivor w a k) (sym e) ∙ sym (survivor-same w a b) ∙ sym M.survivor in
+      let m : merged h1 h2 w ≡ merge_islands a b w =
+      merged-both w h1 h2 an bn ∙ ap (λ (k : ℕ). merge_islands k (body_island w h2) w) (sym p) ∙ ap (λ (k : ℕ). merge_islands a k w) (sym e) in
+      let f : link_joint Z q h1 h2 w ≡ done (joint_pushed i (record { place = new_place w; key = q; body1 = h1; body2 = h2 }) (take_place (merge_islands a b w))) =
       joint-new Z q h1 h2 w n (λ x. id (sym g ∙ x)) r
-      ∙ ap (λ (k : ℕ). done (joint-pushed k (record { place = newPlace w; key = q; body1 = h1; body2 = h2 }) (take-place (merged h1 h2 w)))) g
-      ∙ ap (λ (v : World). done (joint-pushed i (record { place = newPlace w; key = q; body1 = h1; body2 = h2 }) (take-place v))) m in
+      ∙ ap (λ (k : ℕ). done (joint_pushed k (record { place = new_place w; key = q; body1 = h1; body2 = h2 }) (take_place (merged h1 h2 w)))) g
+      ∙ ap (λ (v : World). done (joint_pushed i (record { place = new_place w; key = q; body1 = h1; body2 = h2 }) (take_place v))) m in
       record {
         sound = B.does.sound;
         answer = sym (ap (λ (x : Step). x.answer) f);
-        after = B.does.after ∙ ap (λ (v : World). (joint-hold i q h1 h2 v).after) M.steps.does.after ∙ merged-hold a b i q h1 h2 w ∙ sym (ap (λ (x : Step). x.after) f);
+        after = B.does.after ∙ ap (λ (v : World). (joint_hold i q h1 h2 v).after) M.steps.does.after ∙ merged-hold a b i q h1 h2 w ∙ sym (ap (λ (x : Step). x.after) f);
         frame = kept_then B.larger M.steps.does.frame B.does.frame;
       }

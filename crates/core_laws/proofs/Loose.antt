@@ -6,14 +6,14 @@ use Prim.Native.Nat.{ℕ, ◌+◌, ◌-◌, ◌*◌, ◌≤◌, ◌<◌}
 use native.Mathlib.Omega.{arith}
 use lib.ListN.{length, get_or, set}
 use lib.Seq.{get_or-take, get_or-set_other}
-use Rattle.list_in_table.specs.Rules.{none, View, list_of, swapRemove}
+use Rattle.list_in_table.specs.Rules.{none, View, list_of, swap_remove}
 use Rattle.list_in_table.specs.Table.{view, Wf}
 use Rattle.list_in_table.proofs.Laws.{held}
 use Rattle.list_in_table.proofs.Order.{length-list}
 use Rattle.def_kinds.specs.declared.Sizes.{Sizes}
 use Rattle.def_state.specs.World.{World, Step, done}
-use Rattle.table_meaning.specs.Layout.{Tables, tables, total, Extents, extents, members-in, contacts-in, joints-in, freed-in}
-use Rattle.table_meaning.specs.Decode.{decode, worldOf}
+use Rattle.table_meaning.specs.Layout.{Tables, tables, total, Extents, extents, members_in, contacts_in, joints_in, freed_in}
+use Rattle.table_meaning.specs.Decode.{decode, world_of}
 use Rattle.table_meaning.specs.Rule.{Live, Freed}
 use Rattle.table_meaning.specs.Sound.{IslandAt, Good, Sound}
 use Rattle.table_meaning.specs.Does.{SameBehind, Does}
@@ -26,23 +26,23 @@ use Rattle.core_laws.specs.Loose.{Open, OpenAt, LooseAt, Loose, Loosely, Peopled
 module _ (Z : Sizes) (T : Tables) (i : ℕ) where
   abbrev FreedAt : Type 0
   FreedAt =
-      Freed ((members-in Z T).count i) ((contacts-in Z T).count i) ((joints-in Z T).count i) (get_or T.rows (3 * i) 0) (get_or T.rows (3 * i + 1) 0) (get_or T.rows (3 * i + 2) 0)
-      ((freed-in Z T).home i)
+      Freed ((members_in Z T).count i) ((contacts_in Z T).count i) ((joints_in Z T).count i) (get_or T.rows (3 * i) 0) (get_or T.rows (3 * i + 1) 0) (get_or T.rows (3 * i + 2) 0)
+      ((freed_in Z T).home i)
 
   pub loosen : IslandAt Z T i → LooseAt Z T i
   loosen r =
-      ⊎_elim (λ (x : Live ((members-in Z T).count i) (get_or T.rows (3 * i + 2) 0) ((freed-in Z T).home i)). inl (record { sleeping-flag = x.sleeping-flag; not-freed = x.not-freed }))
+      ⊎_elim (λ (x : Live ((members_in Z T).count i) (get_or T.rows (3 * i + 2) 0) ((freed_in Z T).home i)). inl (record { sleeping_flag = x.sleeping_flag; not_freed = x.not_freed }))
       (λ (x : FreedAt). inr x) r
 
-  pub tighten : ((freed-in Z T).home i ≡ none → 0 < (members-in Z T).count i) → LooseAt Z T i → IslandAt Z T i
+  pub tighten : ((freed_in Z T).home i ≡ none → 0 < (members_in Z T).count i) → LooseAt Z T i → IslandAt Z T i
   tighten h r =
-      ⊎_elim (λ (x : OpenAt Z T i). inl (record { some = h x.not-freed; sleeping-flag = x.sleeping-flag; not-freed = x.not-freed })) (λ (x : FreedAt). inr x) r
+      ⊎_elim (λ (x : OpenAt Z T i). inl (record { some = h x.not_freed; sleeping_flag = x.sleeping_flag; not_freed = x.not_freed })) (λ (x : FreedAt). inr x) r
 
   -- an island that is not free is open
-  pub open_at : (freed-in Z T).home i ≡ none → LooseAt Z T i → OpenAt Z T i
+  pub open_at : (freed_in Z T).home i ≡ none → LooseAt Z T i → OpenAt Z T i
   open_at h r = ⊎_elim (λ (x : OpenAt Z T i). x) (λ (x : FreedAt). absurd (let a = x.in_stack in omega arith)) r
 
-  pub lives-open : (members-in Z T).count i ≢ 0 → LooseAt Z T i → OpenAt Z T i
+  pub lives-open : (members_in Z T).count i ≢ 0 → LooseAt Z T i → OpenAt Z T i
   lives-open h r = ⊎_elim (λ (x : OpenAt Z T i). x) (λ (x : FreedAt). absurd (h x.no_body)) r
 
 -- the rule at equal words
@@ -55,17 +55,17 @@ module _ {Z : Sizes} {X : Extents} {T : Tables} where
   good-loose G =
       record {
         enough = G.enough;
-        slots-le = G.slots-le;
-        islands-le = G.islands-le;
+        slots_le = G.slots_le;
+        islands_le = G.islands_le;
         edges_le = G.edges_le;
-        joints-le = G.joints-le;
-        journal-le = G.journal-le;
-        members-wf = G.members-wf;
-        freed-wf = G.freed-wf;
-        contacts-wf = G.contacts-wf;
-        joints-wf = G.joints-wf;
-        spare-wf = G.spare-wf;
-        scan-wf = G.scan-wf;
+        joints_le = G.joints_le;
+        journal_le = G.journal_le;
+        members_wf = G.members_wf;
+        freed_wf = G.freed_wf;
+        contacts_wf = G.contacts_wf;
+        joints_wf = G.joints_wf;
+        spare_wf = G.spare_wf;
+        scan_wf = G.scan_wf;
         slot = G.slot;
         island = λ i l. loosen Z T i (G.island i l);
         seen = G.seen;
@@ -77,24 +77,24 @@ module _ {Z : Sizes} {X : Extents} {T : Tables} where
 
   pub peopled : Good Z X T → Peopled Z X T
   peopled G i l h =
-      ⊎_elim (λ (x : Live ((members-in Z T).count i) (get_or T.rows (3 * i + 2) 0) ((freed-in Z T).home i)). x.some)
+      ⊎_elim (λ (x : Live ((members_in Z T).count i) (get_or T.rows (3 * i + 2) 0) ((freed_in Z T).home i)). x.some)
       (λ (x : FreedAt Z T i). absurd (let a = x.in_stack in omega arith)) (G.island i l)
 
   pub loose-good : Loose Z X T → Peopled Z X T → Good Z X T
   loose-good G P =
       record {
         enough = G.enough;
-        slots-le = G.slots-le;
-        islands-le = G.islands-le;
+        slots_le = G.slots_le;
+        islands_le = G.islands_le;
         edges_le = G.edges_le;
-        joints-le = G.joints-le;
-        journal-le = G.journal-le;
-        members-wf = G.members-wf;
-        freed-wf = G.freed-wf;
-        contacts-wf = G.contacts-wf;
-        joints-wf = G.joints-wf;
-        spare-wf = G.spare-wf;
-        scan-wf = G.scan-wf;
+        joints_le = G.joints_le;
+        journal_le = G.journal_le;
+        members_wf = G.members_wf;
+        freed_wf = G.freed_wf;
+        contacts_wf = G.contacts_wf;
+        joints_wf = G.joints_wf;
+        spare_wf = G.spare_wf;
+        scan_wf = G.scan_wf;
         slot = G.slot;
         island = λ i l. tighten Z T i (P i l) (G.island i l);
         seen = G.seen;
@@ -117,7 +117,7 @@ loosely-at Z X t W e a l G = record { long = l; loose = subst (λ (V1 : Tables).
 -- the tables of t' are W, with the extents Y
 pub moves-at : {Z : Sizes} {t : List ℕ} (t' : List ℕ) (f : World → World) (Y : Extents) (W : Tables) → tables Z t' ≡ W → extents W ≡ Y → length t' ≡ total Z → Loose Z Y W
     → decode Z Y W ≡ f (decode Z (extents (tables Z t)) (tables Z t)) → SameBehind Z Y (tables Z t) W → Larger (extents (tables Z t)) Y → Moves Z f t t'
-unfolding worldOf
+unfolding world_of
 moves-at {Z} {t} t' f Y W e a l G d k h =
     record { sound = loosely-at Z Y t' W e a l G; after = world-at Z Y t' W e a ∙ d; frame = kept_at Z Y t' W e a (tables Z t) k; larger = rw (ap extents e ∙ a) h }
 
@@ -128,7 +128,7 @@ pub moves-then : {Z : Sizes} {t t1 t2 : List ℕ} (f g : World → World) → Mo
 moves-then f g D E =
     record { sound = E.sound; after = E.after ∙ ap g D.after; frame = kept_then E.larger D.frame E.frame; larger = larger-then D.larger E.larger }
 
-pub moves-as : {Z : Sizes} {t u : List ℕ} (f g : World → World) → f (worldOf Z t) ≡ g (worldOf Z t) → Moves Z f t u → Moves Z g t u
+pub moves-as : {Z : Sizes} {t u : List ℕ} (f g : World → World) → f (world_of Z t) ≡ g (world_of Z t) → Moves Z f t u → Moves Z g t u
 moves-as f g e D = record { sound = D.sound; after = D.after ∙ e; frame = D.frame; larger = D.larger }
 
 -- where every island that is not free has a body, it was a step
@@ -136,8 +136,8 @@ pub moved-steps : {Z : Sizes} {t u : List ℕ} (f : World → World) → Moves Z
 moved-steps f D P = record { does = record { sound = loose-sound D.sound P; answer = refl; after = D.after; frame = D.frame }; larger = D.larger }
 
 -- ---- swap removal leaves what stands before the place
-swap-below : (xs : List ℕ) (p q : ℕ) → q < p → p < length xs → get_or (swapRemove xs p) q 0 ≡ get_or xs q 0
-unfolding swapRemove
+swap-below : (xs : List ℕ) (p q : ℕ) → q < p → p < length xs → get_or (swap_remove xs p) q 0 ≡ get_or xs q 0
+unfolding swap_remove
 swap-below xs p q l h =
     get_or-take (length xs - 1) (set xs p (get_or xs (length xs - 1) 0)) q 0 (omega arith) ∙ get_or-set_other xs p q (get_or xs (length xs - 1) 0) 0 (omega arith)
 
@@ -146,9 +146,9 @@ pub left-taken : (N n m e : ℕ) (x y : List ℕ) → Wf x 0 (4 * N) n m → e <
 left-taken N n m e x y w el eh D =
     let S = view x 0 (4 * N) in
     let H = held w.rules e el eh in
-    let a = H.place-lt in
-    let b = length-list w.rules (S.home e) H.home-lt in
+    let a = H.place_lt in
+    let b = length-list w.rules (S.home e) H.home_lt in
     record {
-      below = λ q l. ap (λ (xs : List ℕ). get_or xs q 0) D.list-e ∙ swap-below (list_of S (S.home e)) (S.place e) q l (omega arith);
-      few = (let c = D.count-i in omega arith);
+      below = λ q l. ap (λ (xs : List ℕ). get_or xs q 0) D.list_e ∙ swap-below (list_of S (S.home e)) (S.place e) q l (omega arith);
+      few = (let c = D.count_i in omega arith);
     }

@@ -16,9 +16,9 @@ use Rattle.list_in_table.proofs.Same.{below}
 use Rattle.list_in_table.proofs.Order.{At, length-list, list_at, list-of}
 use Rattle.def_kinds.specs.declared.Sizes.{Sizes}
 use Rattle.def_state.specs.Plain.{top, has, place_of}
-use Rattle.def_state.specs.World.{Handle, Body, noBody, Island, noIsland, World, body_of, islandAt, named, islandBelow, islandOf, body-island}
-use Rattle.table_meaning.specs.Layout.{Tables, tables, Extents, extents, members-in}
-use Rattle.table_meaning.specs.Decode.{body_at, islandIn, decode, worldOf}
+use Rattle.def_state.specs.World.{Handle, Body, absent_body, Island, absent_island, World, body_of, island_at, named, island_below, island_of, body_island}
+use Rattle.table_meaning.specs.Layout.{Tables, tables, Extents, extents, members_in}
+use Rattle.table_meaning.specs.Decode.{body_at, island_in, decode, world_of}
 use Rattle.table_meaning.specs.Rule.{SlotRule, Vacant, Filled}
 use Rattle.table_meaning.specs.Sound.{Good, Sound}
 use Rattle.table_meaning.proofs.Tab.{length-tabulate, get_d_tabulate, get_d_beyond}
@@ -49,37 +49,37 @@ module _ {n m : ℕ} {S : View} (R : Rules n m S) where
       (λ p pl q.
       let A = list_at R i l p (rw (length-list R i l) at pl) in
       let a = A.lt in
-      d (omega arith) (ap S.home (sym q) ∙ A.home-is))
+      d (omega arith) (ap S.home (sym q) ∙ A.home_is))
 
   module _ (e : ℕ) (el : e < n) (il : S.home e < m) where
     H : Held n m S e
     H = held_in R e (S.home e) el il refl
 
-    pub listed-lt : S.place e < length (list_of S (S.home e))
-    listed-lt = let p = H.place-lt in let l = length-list R (S.home e) il in omega arith
+    pub listed_lt : S.place e < length (list_of S (S.home e))
+    listed_lt = let p = H.place_lt in let l = length-list R (S.home e) il in omega arith
 
     pub listed-yes : has (list_of S (S.home e)) e ≡ true
-    listed-yes = has-yes (list_of S (S.home e)) e (S.place e) listed-lt (list-of R (S.home e) il e el refl)
+    listed-yes = has-yes (list_of S (S.home e)) e (S.place e) listed_lt (list-of R (S.home e) il e el refl)
 
-    pub listed-place : place_of (list_of S (S.home e)) e ≡ S.place e
-    listed-place =
+    pub listed_place : place_of (list_of S (S.home e)) e ≡ S.place e
+    listed_place =
         let l = length-list R (S.home e) il in
-        let p = listed-lt in
-        place_is (list_of S (S.home e)) e (S.place e) listed-lt (list-of R (S.home e) il e el refl)
+        let p = listed_lt in
+        place_is (list_of S (S.home e)) e (S.place e) listed_lt (list-of R (S.home e) il e el refl)
         (λ q ql x. (let a : S.place e ≡ q = ap S.place (sym x) ∙ (list_at R (S.home e) il q (omega arith)).place_is in omega arith))
 
 -- ---- the island of a body
-below-no : (is : List Island) (e k : ℕ) → ((i : ℕ) → i < k → has (get_or is i noIsland).bodies e ≡ false) → islandBelow is e k ≡ top
-unfolding islandBelow
+below-no : (is : List Island) (e k : ℕ) → ((i : ℕ) → i < k → has (get_or is i absent_island).bodies e ≡ false) → island_below is e k ≡ top
+unfolding island_below
 below-no is e zero h = refl
 below-no is e (suc k) h = rw (h k (omega arith)) (below-no is e k (λ i l. h i (omega arith)))
 
-below-yes : (is : List Island) (e i k : ℕ) → i < k → has (get_or is i noIsland).bodies e ≡ true → ((j : ℕ) → j < k → j ≢ i → has (get_or is j noIsland).bodies e ≡ false)
-    → islandBelow is e k ≡ i
-unfolding islandBelow
+below-yes : (is : List Island) (e i k : ℕ) → i < k → has (get_or is i absent_island).bodies e ≡ true → ((j : ℕ) → j < k → j ≢ i → has (get_or is j absent_island).bodies e ≡ false)
+    → island_below is e k ≡ i
+unfolding island_below
 below-yes is e i zero l y h = absurd (omega arith)
 below-yes is e i (suc k) l y h =
-    either k i (λ s. let y' : has (get_or is k noIsland).bodies e ≡ true = rw s y in rw y' s)
+    either k i (λ s. let y' : has (get_or is k absent_island).bodies e ≡ true = rw s y in rw y' s)
     (λ d. rw (h k (omega arith) d) (below-yes is e i k (omega arith) y (λ j jl o. h j (omega arith) o)))
 
 module _ (Z : Sizes) (X : Extents) (T : Tables) where
@@ -87,16 +87,16 @@ module _ (Z : Sizes) (X : Extents) (T : Tables) where
   w = decode Z X T
 
   abbrev S : View
-  S = members-in Z T
+  S = members_in Z T
 
-  pub island-at : (i : ℕ) → i < X.islands → islandAt w i ≡ islandIn Z T i
-  island-at i l = get_d_tabulate X.islands (islandIn Z T) noIsland i l
+  pub island-at : (i : ℕ) → i < X.islands → island_at w i ≡ island_in Z T i
+  island-at i l = get_d_tabulate X.islands (island_in Z T) absent_island i l
 
   pub body-of : (s : ℕ) → s < X.slots → body_of w s ≡ body_at T.slots s
-  body-of s l = get_d_tabulate X.slots (body_at T.slots) noBody s l
+  body-of s l = get_d_tabulate X.slots (body_at T.slots) absent_body s l
 
-  pub body-far : (s : ℕ) → X.slots ≤ s → body_of w s ≡ noBody
-  body-far s l = get_d_beyond w.bodies noBody s (rw (length-tabulate X.slots (body_at T.slots)) l)
+  pub body-far : (s : ℕ) → X.slots ≤ s → body_of w s ≡ absent_body
+  body-far s l = get_d_beyond w.bodies absent_body s (rw (length-tabulate X.slots (body_at T.slots)) l)
 
   pub named-absent : (h : Handle) → h.generation ≡ none → named w h ≡ false
   unfolding named
@@ -115,63 +115,63 @@ module _ (Z : Sizes) (X : Extents) (T : Tables) where
   -- what it is that a handle names a live body
   pub record Named (h : Handle) : Type 0 where
     pub slot_lt : h.slot < X.slots
-    pub not-absent : h.generation ≢ none
-    pub generation-is : get_or T.slots (5 * h.slot) 0 ≡ h.generation
+    pub not_absent : h.generation ≢ none
+    pub generation_is : get_or T.slots (5 * h.slot) 0 ≡ h.generation
 
   pub is-named : (h : Handle) → named w h ≡ true → Named h
   is-named h e =
       below h.slot X.slots
       (λ l.
       either h.generation none (λ q. absurd (false≢true (sym (named-absent h q) ∙ e)))
-      (λ d. record { slot_lt = l; not-absent = d; generation-is = eqb-true _ _ (sym (named-at h l d) ∙ e) }))
+      (λ d. record { slot_lt = l; not_absent = d; generation_is = eqb-true _ _ (sym (named-at h l d) ∙ e) }))
       (λ l. absurd (false≢true (sym (named-far h l) ∙ e)))
 
   module _ (G : Good Z X T) where
     R : Rules X.slots X.islands S
-    R = G.members-wf.rules
+    R = G.members_wf.rules
 
     -- a named body's slot is filled
     pub named-filled : (h : Handle) → Named h
         → Filled (get_or T.slots (5 * h.slot) 0) (get_or T.slots (5 * h.slot + 2) 0) (get_or T.slots (5 * h.slot + 3) 0) (get_or T.slots (5 * h.slot + 4) 0)
     named-filled h N =
-        ⊎_elim (λ v. absurd (let a = v.no-generation in let b = N.generation-is in let c = N.not-absent in omega arith)) (λ f. f) (G.slot h.slot N.slot_lt)
+        ⊎_elim (λ v. absurd (let a = v.no_generation in let b = N.generation_is in let c = N.not_absent in omega arith)) (λ f. f) (G.slot h.slot N.slot_lt)
 
-    not_in : (s i : ℕ) → i < X.islands → (s < X.slots → S.home s ≢ i) → has (islandAt w i).bodies s ≡ false
+    not_in : (s i : ℕ) → i < X.islands → (s < X.slots → S.home s ≢ i) → has (island_at w i).bodies s ≡ false
     not_in s i l d = rw (island-at i l) (listed-no R i s l d)
 
     -- the island that lists a body is the home that its words name
-    pub island-of : (s : ℕ) → s < X.slots → islandOf w s ≡ S.home s
-    unfolding islandOf
+    pub island-of : (s : ℕ) → s < X.slots → island_of w s ≡ S.home s
+    unfolding island_of
     island-of s sl =
-        rw (length-tabulate X.islands (islandIn Z T))
+        rw (length-tabulate X.islands (island_in Z T))
         (either (S.home s) none
-        (λ q. below-no w.islands s X.islands (λ i l. not_in s i l (λ h e. (let o = R.m-small in omega arith))) ∙ sym q)
+        (λ q. below-no w.islands s X.islands (λ i l. not_in s i l (λ h e. (let o = R.m_small in omega arith))) ∙ sym q)
         (λ d.
-        let il = (held R s sl d).home-lt in
+        let il = (held R s sl d).home_lt in
         below-yes w.islands s (S.home s) X.islands il (rw (island-at (S.home s) il) (listed-yes R s sl il)) (λ j jl o. not_in s j jl (λ h e. o (sym e)))))
 
     -- the place at which the list has it
     pub place-of : (s : ℕ) → s < X.slots → S.home s < X.islands → place_of (list_of S (S.home s)) s ≡ S.place s
-    place-of s sl il = listed-place R s sl il
+    place-of s sl il = listed_place R s sl il
 
 -- the same of a buffer
 module _ (Z : Sizes) (t : List ℕ) (s g : ℕ) where
-  pub absent-named : g ≡ none → false ≡ named (worldOf Z t) (handle s g)
-  unfolding worldOf
+  pub absent-named : g ≡ none → false ≡ named (world_of Z t) (handle s g)
+  unfolding world_of
   absent-named e = sym (named-absent Z (extents (tables Z t)) (tables Z t) (handle s g) e)
 
-  pub far-named : (extents (tables Z t)).slots ≤ s → false ≡ named (worldOf Z t) (handle s g)
-  unfolding worldOf
+  pub far-named : (extents (tables Z t)).slots ≤ s → false ≡ named (world_of Z t) (handle s g)
+  unfolding world_of
   far-named l = sym (named-far Z (extents (tables Z t)) (tables Z t) (handle s g) l)
 
-  pub word-named : s < (extents (tables Z t)).slots → g ≢ none → eqb (get_or (tables Z t).slots (5 * s) 0) g ≡ named (worldOf Z t) (handle s g)
-  unfolding worldOf
+  pub word-named : s < (extents (tables Z t)).slots → g ≢ none → eqb (get_or (tables Z t).slots (5 * s) 0) g ≡ named (world_of Z t) (handle s g)
+  unfolding world_of
   word-named l d = sym (named-at Z (extents (tables Z t)) (tables Z t) (handle s g) l d)
 
-  pub named-is : named (worldOf Z t) (handle s g) ≡ true → Named Z (extents (tables Z t)) (tables Z t) (handle s g)
-  unfolding worldOf
-  named-is e = is-named Z (extents (tables Z t)) (tables Z t) (handle s g) e
+  pub named_is : named (world_of Z t) (handle s g) ≡ true → Named Z (extents (tables Z t)) (tables Z t) (handle s g)
+  unfolding world_of
+  named_is e = is-named Z (extents (tables Z t)) (tables Z t) (handle s g) e
 
-  pub home-is : Sound Z t → s < (extents (tables Z t)).slots → islandOf (worldOf Z t) s ≡ (members-in Z (tables Z t)).home s
-  unfolding worldOf
-  home-is S l = island-of Z (extents (tables Z t)) (tables Z t) S.good s l
+  pub home_is : Sound Z t → s < (extents (tables Z t)).slots → island_of (world_of Z t) s ≡ (members_in Z (tables Z t)).home s
+  unfolding world_of
+  home_is S l = island-of Z (extents (tables Z t)) (tables Z t) S.good s l

@@ -5,28 +5,28 @@ use mathlib.Core.List.{List, [], ◌∷◌}
 use Prim.Native.Nat.{ℕ, ◌+◌, ◌*◌, ◌≤◌, ◌<◌}
 use native.Mathlib.Omega.{arith}
 use lib.ListN.{length, get_or}
-use Rattle.list_in_table.specs.Word.{writes, miss, hit, length-writes}
+use Rattle.list_in_table.specs.Word.{writes, miss, hit, length_writes}
 use Rattle.list_in_table.proofs.Same.{below}
 use Rattle.def_state.specs.World.{JointLink}
-use Rattle.table_meaning.specs.Decode.{key_of, jointAt}
+use Rattle.table_meaning.specs.Decode.{key_of, joint_at}
 use Rattle.table_meaning.specs.Rule.{JointRule}
 use Rattle.table_meaning.specs.Sound.{SameKey}
 use Rattle.core_laws.specs.Steps.{handle}
 
-abbrev pub fourWords : (j a b c d : ℕ) → List (ℕ × ℕ)
-fourWords j a b c d = (j, a) ∷ (j + 1, b) ∷ (j + 2, c) ∷ (j + 3, d) ∷ []
+abbrev pub four_words : (j a b c d : ℕ) → List (ℕ × ℕ)
+four_words j a b c d = (j, a) ∷ (j + 1, b) ∷ (j + 2, c) ∷ (j + 3, d) ∷ []
 
 module _ (x : List ℕ) (j a b c d : ℕ) (h : j + 3 < length x) where
-  four-0 : get_or (writes x (fourWords j a b c d)) j 0 ≡ a
+  four-0 : get_or (writes x (four_words j a b c d)) j 0 ≡ a
   four-0 = hit x [] j a ((j + 1, b) ∷ (j + 2, c) ∷ (j + 3, d) ∷ []) (omega arith) (omega arith)
 
-  four-1 : get_or (writes x (fourWords j a b c d)) (j + 1) 0 ≡ b
+  four-1 : get_or (writes x (four_words j a b c d)) (j + 1) 0 ≡ b
   four-1 = hit x ((j, a) ∷ []) (j + 1) b ((j + 2, c) ∷ (j + 3, d) ∷ []) (omega arith) (omega arith)
 
-  four-2 : get_or (writes x (fourWords j a b c d)) (j + 2) 0 ≡ c
+  four-2 : get_or (writes x (four_words j a b c d)) (j + 2) 0 ≡ c
   four-2 = hit x ((j, a) ∷ (j + 1, b) ∷ []) (j + 2) c ((j + 3, d) ∷ []) (omega arith) (omega arith)
 
-  four-3 : get_or (writes x (fourWords j a b c d)) (j + 3) 0 ≡ d
+  four-3 : get_or (writes x (four_words j a b c d)) (j + 3) 0 ≡ d
   four-3 = hit x ((j, a) ∷ (j + 1, b) ∷ (j + 2, c) ∷ []) (j + 3) d [] (omega arith) (omega arith)
 
 joint-is : {p k k' a a' b b' c c' d d' e e' f f' g g' : ℕ} → k ≡ k' → a ≡ a' → b ≡ b' → c ≡ c' → d ≡ d' → e ≡ e' → f ≡ f' → g ≡ g'
@@ -46,18 +46,18 @@ RuleAt x k h s =
 
 module _ (x : List ℕ) (p k a b c s1 g1 s2 g2 : ℕ) where
   abbrev half : List ℕ
-  half = writes x (fourWords (8 * p) k a b c)
+  half = writes x (four_words (8 * p) k a b c)
 
   abbrev pub eight : List ℕ
-  eight = writes half (fourWords (8 * p + 4) s1 g1 s2 g2)
+  eight = writes half (four_words (8 * p + 4) s1 g1 s2 g2)
 
   pub outside : (j : ℕ) → (j < 8 * p) ⊎ (8 * p + 8 ≤ j) → get_or eight j 0 ≡ get_or x j 0
   outside j o =
-      ⊎_elim (λ (l : j < 8 * p). miss half (fourWords (8 * p + 4) s1 g1 s2 g2) j (omega arith) ∙ miss x (fourWords (8 * p) k a b c) j (omega arith))
-      (λ (l : 8 * p + 8 ≤ j). miss half (fourWords (8 * p + 4) s1 g1 s2 g2) j (omega arith) ∙ miss x (fourWords (8 * p) k a b c) j (omega arith)) o
+      ⊎_elim (λ (l : j < 8 * p). miss half (four_words (8 * p + 4) s1 g1 s2 g2) j (omega arith) ∙ miss x (four_words (8 * p) k a b c) j (omega arith))
+      (λ (l : 8 * p + 8 ≤ j). miss half (four_words (8 * p + 4) s1 g1 s2 g2) j (omega arith) ∙ miss x (four_words (8 * p) k a b c) j (omega arith)) o
 
   pub eight-long : length eight ≡ length x
-  eight-long = length-writes half (fourWords (8 * p + 4) s1 g1 s2 g2) ∙ length-writes x (fourWords (8 * p) k a b c)
+  eight-long = length_writes half (four_words (8 * p + 4) s1 g1 s2 g2) ∙ length_writes x (four_words (8 * p) k a b c)
 
   -- another place
   module _ (q : ℕ) (d : q ≢ p) where
@@ -70,7 +70,7 @@ module _ (x : List ℕ) (p k a b c s1 g1 s2 g2 : ℕ) where
     pub other : (j : ℕ) → j < 8 → get_or eight (8 * q + j) 0 ≡ get_or x (8 * q + j) 0
     other j h = apart (8 * q + j) (omega arith) (omega arith)
 
-    pub other-link : jointAt eight q ≡ jointAt x q
+    pub other-link : joint_at eight q ≡ joint_at x q
     other-link =
         joint-is first (other 1 (omega arith)) (other 2 (omega arith)) (other 3 (omega arith)) (other 4 (omega arith)) (apart (8 * q + 4 + 1) (omega arith) (omega arith)) (other 6 (omega arith))
         (apart (8 * q + 6 + 1) (omega arith) (omega arith))
@@ -92,10 +92,10 @@ module _ (x : List ℕ) (p k a b c s1 g1 s2 g2 : ℕ) where
   -- the words themselves
   module _ (h : 8 * p + 7 < length x) where
     front : (j : ℕ) → j < 8 * p + 4 → get_or eight j 0 ≡ get_or half j 0
-    front j l = miss half (fourWords (8 * p + 4) s1 g1 s2 g2) j (omega arith)
+    front j l = miss half (four_words (8 * p + 4) s1 g1 s2 g2) j (omega arith)
 
     back : 8 * p + 4 + 3 < length half
-    back = let e = length-writes x (fourWords (8 * p) k a b c) in omega arith
+    back = let e = length_writes x (four_words (8 * p) k a b c) in omega arith
 
     pub word-0 : get_or eight (8 * p) 0 ≡ k
     word-0 = front (8 * p) (omega arith) ∙ four-0 x (8 * p) k a b c (omega arith)
@@ -124,5 +124,5 @@ module _ (x : List ℕ) (p k a b c s1 g1 s2 g2 : ℕ) where
     pub word-7 : get_or eight (8 * p + 7) 0 ≡ g2
     word-7 = at (8 * p + 7) (8 * p + 4 + 3) g2 (omega arith) (four-3 half (8 * p + 4) s1 g1 s2 g2 back)
 
-    pub here-link : jointAt eight p ≡ record { place = p; key = key_of k a b c; body1 = handle s1 g1; body2 = handle s2 g2 }
+    pub here-link : joint_at eight p ≡ record { place = p; key = key_of k a b c; body1 = handle s1 g1; body2 = handle s2 g2 }
     here-link = joint-is word-0 word-1 word-2 word-3 word-4 (four-1 half (8 * p + 4) s1 g1 s2 g2 back) word-6 (at (8 * p + 6 + 1) (8 * p + 7) g2 (omega arith) word-7)

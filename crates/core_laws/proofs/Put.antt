@@ -13,18 +13,18 @@ use Rattle.def_kinds.specs.Choice.{pick}
 use Rattle.def_kinds.specs.declared.Sizes.{Sizes}
 use Rattle.def_kinds.specs.declared.Answer.{Answer}
 use Rattle.def_kinds.specs.declared.Answer.TheVariants.{Done, Nothing, OverSize, SlotTaken, BadGeneration}
-use Rattle.def_state.specs.World.{Handle, Body, noBody, World, Step, done, gives, body_of, named}
-use Rattle.def_state.specs.Fields.{bodies-set}
+use Rattle.def_state.specs.World.{Handle, Body, absent_body, World, Step, done, gives, body_of, named}
+use Rattle.def_state.specs.Fields.{bodies_set}
 use Rattle.def_state.specs.Bodies.{grown, filled, placed, put, flags, vacated, vacate}
 use Rattle.table_meaning.specs.Layout.{Tables, tables, Extents, extents}
-use Rattle.table_meaning.specs.Decode.{bit_of, flag, body_at, decode, worldOf}
+use Rattle.table_meaning.specs.Decode.{bit_of, flag, body_at, decode, world_of}
 use Rattle.table_meaning.specs.Sound.{Good, Sound}
 use Rattle.table_meaning.specs.Does.{Does}
 use Rattle.table_meaning.specs.Larger.{Larger}
 use Rattle.table_meaning.proofs.Unique.{slots-is}
 use Rattle.table_meaning.proofs.Frame.{larger-refl}
 use Rattle.table_meaning.proofs.Tab.{get_d_beyond}
-use Rattle.core_laws.specs.Steps.{handle, bodyWith, grow, stand, Grew, Stood}
+use Rattle.core_laws.specs.Steps.{handle, body_with, grow, stand, Grew, Stood}
 use Rattle.core_laws.proofs.Then.{refused, does-as, does-then}
 use Rattle.core_laws.proofs.GrowSlot.{grown-none}
 use Rattle.core_laws.proofs.Names.{body-of, body-far}
@@ -38,7 +38,7 @@ bit_is true = refl
 bit_is false = refl
 
 -- the body with these flags
-pub body-with : (g l : ℕ) (f e z : Bool) → bodyWith g l (bit_of f) (bit_of e) (bit_of z) ≡ record { generation = g; lowest = l; fixed = f; enabled = e; sleeping = z }
+pub body-with : (g l : ℕ) (f e z : Bool) → body_with g l (bit_of f) (bit_of e) (bit_of z) ≡ record { generation = g; lowest = l; fixed = f; enabled = e; sleeping = z }
 body-with g l f e z = rw (bit_is f, bit_is e, bit_is z)
 
 module _ (Z : Sizes) (s g : ℕ) (f e z : Bool) (w : World) where
@@ -67,24 +67,24 @@ module _ (Z : Sizes) (s g : ℕ) (f e z : Bool) (w : World) where
 
 -- the words of a slot in use, and of one that is not
 module _ (Z : Sizes) (t : List ℕ) (s : ℕ) where
-  pub body-word : s < (extents (tables Z t)).slots → body_of (worldOf Z t) s ≡ body_at (tables Z t).slots s
-  unfolding worldOf
+  pub body-word : s < (extents (tables Z t)).slots → body_of (world_of Z t) s ≡ body_at (tables Z t).slots s
+  unfolding world_of
   body-word h = body-of Z (extents (tables Z t)) (tables Z t) s h
 
-  pub body-none : (extents (tables Z t)).slots ≤ s → body_of (worldOf Z t) s ≡ noBody
-  unfolding worldOf
+  pub body-none : (extents (tables Z t)).slots ≤ s → body_of (world_of Z t) s ≡ absent_body
+  unfolding world_of
   body-none h = body-far Z (extents (tables Z t)) (tables Z t) s h
 
-  pub generation-word : s < (extents (tables Z t)).slots → (body_of (worldOf Z t) s).generation ≡ get_or (tables Z t).slots (5 * s) 0
+  pub generation-word : s < (extents (tables Z t)).slots → (body_of (world_of Z t) s).generation ≡ get_or (tables Z t).slots (5 * s) 0
   generation-word h = ap (λ (b : Body). b.generation) (body-word h)
 
-  pub lowest-word : s < (extents (tables Z t)).slots → (body_of (worldOf Z t) s).lowest ≡ get_or (tables Z t).slots (5 * s + 1) 0
+  pub lowest-word : s < (extents (tables Z t)).slots → (body_of (world_of Z t) s).lowest ≡ get_or (tables Z t).slots (5 * s + 1) 0
   lowest-word h = ap (λ (b : Body). b.lowest) (body-word h)
 
 -- ---- put into a slot in use, and into one that has to come into use
 module _ (Z : Sizes) (t : List ℕ) (s g : ℕ) (f e z : Bool) where
   abbrev w : World
-  w = worldOf Z t
+  w = world_of Z t
 
   pub put-old : {t' : List ℕ} → s < (extents (tables Z t)).slots → put Z (handle s g) f e z w ≡ done (placed (handle s g) f e z w)
       → Stood Z s g (get_or (tables Z t).slots (5 * s + 1) 0) (bit_of f) (bit_of e) (bit_of z) t t' → Does Z (put Z (handle s g) f e z) t Done t'
@@ -93,8 +93,8 @@ module _ (Z : Sizes) (t : List ℕ) (s g : ℕ) (f e z : Bool) where
       does-as _ (put Z (handle s g) f e z)
       (sym
       (q
-      ∙ ap (λ (v : World). done (bodies-set w (set v.bodies s (filled (handle s g) f e z (body_of w s))))) (grown-none (s + 1) w (let x = slots-is Z t in omega arith))
-      ∙ ap (λ (b : Body). done (bodies-set w (set w.bodies s b)))
+      ∙ ap (λ (v : World). done (bodies_set w (set v.bodies s (filled (handle s g) f e z (body_of w s))))) (grown-none (s + 1) w (let x = slots-is Z t in omega arith))
+      ∙ ap (λ (b : Body). done (bodies_set w (set w.bodies s b)))
       (ap (λ (x : ℕ). record { generation = g; lowest = x; fixed = f; enabled = e; sleeping = z }) (lowest-word Z t s h) ∙ sym (body-with g (get_or (tables Z t).slots (5 * s + 1) 0) f e z))))
       D.does
 
@@ -105,23 +105,23 @@ module _ (Z : Sizes) (t : List ℕ) (s g : ℕ) (f e z : Bool) where
       does-as _ (put Z (handle s g) f e z)
       (sym
       (q
-      ∙ ap (λ (b : Body). done (bodies-set w (set (grown (s + 1) w).bodies s b)))
+      ∙ ap (λ (b : Body). done (bodies_set w (set (grown (s + 1) w).bodies s b)))
       (ap (λ (x : Body). filled (handle s g) f e z x) (body-none Z t s h) ∙ sym (body-with g 0 f e z))))
-      (does-then (grow (s + 1)) (stand s (bodyWith g 0 (bit_of f) (bit_of e) (bit_of z))) (rw E.extents-same (larger-refl (extents (tables Z t1)))) D.does E.does)
+      (does-then (grow (s + 1)) (stand s (body_with g 0 (bit_of f) (bit_of e) (bit_of z))) (rw E.extents_same (larger-refl (extents (tables Z t1)))) D.does E.does)
 
 -- ---- flags
 pub flags-no : (h : Handle) (f e z : Bool) (w : World) → named w h ≡ false → flags h f e z w ≡ gives Nothing w
 unfolding flags
 flags-no h f e z w n = rw n
 
-pub flags-yes : {Z : Sizes} {t t' : List ℕ} (s g : ℕ) (f e z : Bool) → named (worldOf Z t) (handle s g) ≡ true → s < (extents (tables Z t)).slots
+pub flags-yes : {Z : Sizes} {t t' : List ℕ} (s g : ℕ) (f e z : Bool) → named (world_of Z t) (handle s g) ≡ true → s < (extents (tables Z t)).slots
     → Stood Z s g (get_or (tables Z t).slots (5 * s + 1) 0) (bit_of f) (bit_of e) (bit_of z) t t' → Does Z (flags (handle s g) f e z) t Done t'
 unfolding stand flags
 flags-yes {Z} {t} s g f e z n h D =
-    let w = worldOf Z t in
+    let w = world_of Z t in
     does-as _ (flags (handle s g) f e z)
     (sym
     (rw n
-    (ap (λ (b : Body). done (bodies-set w (set w.bodies s b)))
+    (ap (λ (b : Body). done (bodies_set w (set w.bodies s b)))
     (ap (λ (x : ℕ). record { generation = g; lowest = x; fixed = f; enabled = e; sleeping = z }) (lowest-word Z t s h) ∙ sym (body-with g (get_or (tables Z t).slots (5 * s + 1) 0) f e z)))))
     D.does

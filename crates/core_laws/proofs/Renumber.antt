@@ -22,11 +22,11 @@ use Rattle.list_in_buffer.specs.Part.{Put}
 use Rattle.def_kinds.specs.declared.Sizes.{Sizes}
 use Rattle.def_kinds.specs.declared.Answer.TheVariants.{Done, Nothing, StillLinked}
 use Rattle.def_state.specs.Plain.{top, place_of}
-use Rattle.def_state.specs.World.{ContactLink, noContact, Island, World, Step, done, gives, islandAt}
-use Rattle.def_state.specs.Fields.{island-set, tracked-set, contacts-set}
-use Rattle.def_state.specs.Links.{edgesOf, contactHome, renamed, renumbered, contact-edge-removed}
-use Rattle.table_meaning.specs.Layout.{Tables, tables, total, headAt, headLong, contactsAt, contactsLong, touchesAt, touchesLong, head-put, contacts-put, touches-put, Extents, extents, contacts-in}
-use Rattle.table_meaning.specs.Decode.{flag, contactAt, islandIn, decode, worldOf}
+use Rattle.def_state.specs.World.{ContactLink, absent_contact, Island, World, Step, done, gives, island_at}
+use Rattle.def_state.specs.Fields.{island_set, tracked_set, contacts_set}
+use Rattle.def_state.specs.Links.{edges_of, contact_home, renamed, renumbered, contact_edge_removed}
+use Rattle.table_meaning.specs.Layout.{Tables, tables, total, head_at, head_span, contacts_at, contacts_span, touches_at, touches_span, head_put, contacts_put, touches_put, Extents, extents, contacts_in}
+use Rattle.table_meaning.specs.Decode.{flag, contact_at, island_in, decode, world_of}
 use Rattle.table_meaning.specs.Rule.{EdgeRule}
 use Rattle.table_meaning.specs.Sound.{EdgeAt, Good, Sound}
 use Rattle.table_meaning.specs.Does.{SameBehind, Does}
@@ -42,30 +42,30 @@ use Rattle.core_laws.proofs.Loose.{good-loose}
 
 -- ---- what the call answers
 module _ (g l : ℕ) (w : World) where
-  removed-far : w.tracked ≤ g → contact-edge-removed g l w ≡ gives Nothing w
-  unfolding contact-edge-removed
+  removed-far : w.tracked ≤ g → contact_edge_removed g l w ≡ gives Nothing w
+  unfolding contact_edge_removed
   removed-far h = rw (le-leb w.tracked g h)
 
   module _ (h : g < w.tracked) where
-    removed-linked : contactHome w g ≢ top → contact-edge-removed g l w ≡ gives StillLinked w
-    unfolding contact-edge-removed
-    removed-linked d = rw (lt-leb w.tracked g h, ne_eqb (contactHome w g) top d)
+    removed-linked : contact_home w g ≢ top → contact_edge_removed g l w ≡ gives StillLinked w
+    unfolding contact_edge_removed
+    removed-linked d = rw (lt-leb w.tracked g h, ne_eqb (contact_home w g) top d)
 
-    module _ (e : contactHome w g ≡ top) where
-      removed-not-last : w.tracked ≢ l + 1 → contact-edge-removed g l w ≡ gives Nothing w
-      unfolding contact-edge-removed
-      removed-not-last d = rw (lt-leb w.tracked g h, eq-eqb (contactHome w g) top e, ne_eqb w.tracked (l + 1) d)
+    module _ (e : contact_home w g ≡ top) where
+      removed-not-last : w.tracked ≢ l + 1 → contact_edge_removed g l w ≡ gives Nothing w
+      unfolding contact_edge_removed
+      removed-not-last d = rw (lt-leb w.tracked g h, eq-eqb (contact_home w g) top e, ne_eqb w.tracked (l + 1) d)
 
-      removed-done : w.tracked ≡ l + 1 → contact-edge-removed g l w ≡ done (tracked-set (renumbered g l w) l)
-      unfolding contact-edge-removed
-      removed-done q = rw (lt-leb w.tracked g h, eq-eqb (contactHome w g) top e, eq-eqb w.tracked (l + 1) q)
+      removed-done : w.tracked ≡ l + 1 → contact_edge_removed g l w ≡ done (tracked_set (renumbered g l w) l)
+      unfolding contact_edge_removed
+      removed-done q = rw (lt-leb w.tracked g h, eq-eqb (contact_home w g) top e, eq-eqb w.tracked (l + 1) q)
 
-  renumbered-none : contactHome w l ≡ top → renumbered g l w ≡ w
+  renumbered-none : contact_home w l ≡ top → renumbered g l w ≡ w
   unfolding renumbered
-  renumbered-none e = rw (eq-eqb (contactHome w l) top e)
+  renumbered-none e = rw (eq-eqb (contact_home w l) top e)
 
-  renumbered-in : (i p : ℕ) → contactHome w l ≡ i → i ≢ top → place_of (edgesOf (islandAt w i)) l ≡ p
-      → renumbered g l w ≡ island-set w i (contacts-set (islandAt w i) (set (islandAt w i).contact-links p (renamed g (get_or (islandAt w i).contact-links p noContact))))
+  renumbered-in : (i p : ℕ) → contact_home w l ≡ i → i ≢ top → place_of (edges_of (island_at w i)) l ≡ p
+      → renumbered g l w ≡ island_set w i (contacts_set (island_at w i) (set (island_at w i).contact_links p (renamed g (get_or (island_at w i).contact_links p absent_contact))))
   unfolding renumbered
   renumbered-in i p e d q = rw (e, ne_eqb i top d, q)
 
@@ -74,55 +74,55 @@ module _ {Z : Sizes} {t : List ℕ} (g l : ℕ) (S : Sound Z t) where
   X0 = extents (tables Z t)
 
   abbrev V0 : View
-  V0 = contacts-in Z (tables Z t)
+  V0 = contacts_in Z (tables Z t)
 
-  tracks : (worldOf Z t).tracked ≡ X0.edges
-  unfolding worldOf
+  tracks : (world_of Z t).tracked ≡ X0.edges
+  unfolding world_of
   tracks = refl
 
   -- an edge that is not tracked
-  pub edge-unknown : X0.edges ≤ g → Does Z (contact-edge-removed g l) t Nothing t
-  edge-unknown h = refused (contact-edge-removed g l) Nothing S (removed-far g l (worldOf Z t) (rw tracks h))
+  pub edge-unknown : X0.edges ≤ g → Does Z (contact_edge_removed g l) t Nothing t
+  edge-unknown h = refused (contact_edge_removed g l) Nothing S (removed-far g l (world_of Z t) (rw tracks h))
 
   module _ (h : g < X0.edges) where
     -- one that is still linked
-    pub edge-linked : V0.home g ≢ none → Does Z (contact-edge-removed g l) t StillLinked t
-    edge-linked d = refused (contact-edge-removed g l) StillLinked S (removed-linked g l (worldOf Z t) (rw tracks h) (λ e. d (sym (contact-home S g h) ∙ e)))
+    pub edge-linked : V0.home g ≢ none → Does Z (contact_edge_removed g l) t StillLinked t
+    edge-linked d = refused (contact_edge_removed g l) StillLinked S (removed-linked g l (world_of Z t) (rw tracks h) (λ e. d (sym (contact-home S g h) ∙ e)))
 
     -- `last` is not the last that is tracked
-    pub edge-not-last : V0.home g ≡ none → X0.edges ≢ l + 1 → Does Z (contact-edge-removed g l) t Nothing t
+    pub edge-not-last : V0.home g ≡ none → X0.edges ≢ l + 1 → Does Z (contact_edge_removed g l) t Nothing t
     edge-not-last b d =
-        refused (contact-edge-removed g l) Nothing S (removed-not-last g l (worldOf Z t) (rw tracks h) (contact-home S g h ∙ b) (λ e. d (sym tracks ∙ e)))
+        refused (contact_edge_removed g l) Nothing S (removed-not-last g l (world_of Z t) (rw tracks h) (contact-home S g h ∙ b) (λ e. d (sym tracks ∙ e)))
 
-    edge-done : V0.home g ≡ none → X0.edges ≡ l + 1 → contact-edge-removed g l (worldOf Z t) ≡ done (tracked-set (renumbered g l (worldOf Z t)) l)
-    edge-done b q = removed-done g l (worldOf Z t) (rw tracks h) (contact-home S g h ∙ b) (tracks ∙ q)
+    edge-done : V0.home g ≡ none → X0.edges ≡ l + 1 → contact_edge_removed g l (world_of Z t) ≡ done (tracked_set (renumbered g l (world_of Z t)) l)
+    edge-done b q = removed-done g l (world_of Z t) (rw tracks h) (contact-home S g h ∙ b) (tracks ∙ q)
 
     -- a linked last edge is another than g
     pub edge-less : V0.home g ≡ none → X0.edges ≡ l + 1 → V0.home l ≢ none → g < l
     edge-less b q d = either g l (λ e. absurd (d (ap V0.home (sym e) ∙ b))) (λ n. omega arith)
 
 -- ---- the tracked length becomes l
-abbrev pub fewer-edges : Extents → ℕ → Extents
-fewer-edges X l = record { slots = X.slots; islands = X.islands; edges = l; joints = X.joints; journal = X.journal }
+abbrev pub fewer_edges : Extents → ℕ → Extents
+fewer_edges X l = record { slots = X.slots; islands = X.islands; edges = l; joints = X.joints; journal = X.journal }
 
 module _ (x : List ℕ) (l : ℕ) where
   head-o : (j : ℕ) → j ≢ 2 → get_or (set x 2 l) j 0 ≡ get_or x j 0
   head-o j d = get_or-set_other x 2 j l 0 d
 
-after : (Z : Sizes) (T U : Tables) (l : ℕ) → Sized Z T → U.head ≡ set T.head 2 l → extents U ≡ fewer-edges (extents T) l
+after : (Z : Sizes) (T U : Tables) (l : ℕ) → Sized Z T → U.head ≡ set T.head 2 l → extents U ≡ fewer_edges (extents T) l
 after Z T U l K e =
-    let k = K.head-length in
+    let k = K.head_length in
     let o = head-o T.head l in
     let f : (j : ℕ) → get_or U.head j 0 ≡ get_or (set T.head 2 l) j 0 = λ j. ap (λ (y : List ℕ). get_or y j 0) e in
     extents-is (f 0 ∙ o 0 (omega arith)) (f 1 ∙ o 1 (omega arith)) (f 2 ∙ get_or-set_same T.head 2 l 0 (omega arith)) (f 3 ∙ o 3 (omega arith)) (f 4 ∙ o 4 (omega arith))
 
 -- ---- the last edge is not linked
-module _ (Z : Sizes) (X : Extents) (T : Tables) (G : Good Z X T) (l : ℕ) (q : X.edges ≡ l + 1) (b : (contacts-in Z T).home l ≡ none) where
+module _ (Z : Sizes) (X : Extents) (T : Tables) (G : Good Z X T) (l : ℕ) (q : X.edges ≡ l + 1) (b : (contacts_in Z T).home l ≡ none) where
   abbrev A : Tables
-  A = head-put T (set T.head 2 l)
+  A = head_put T (set T.head 2 l)
 
   abbrev Y : Extents
-  Y = fewer-edges X l
+  Y = fewer_edges X l
 
   o : (j : ℕ) → j ≢ 2 → get_or A.head j 0 ≡ get_or T.head j 0
   o = head-o T.head l
@@ -131,23 +131,23 @@ module _ (Z : Sizes) (X : Extents) (T : Tables) (G : Good Z X T) (l : ℕ) (q : 
   shrink-good =
       record {
         enough = G.enough;
-        slots-le = G.slots-le;
-        islands-le = G.islands-le;
+        slots_le = G.slots_le;
+        islands_le = G.islands_le;
         edges_le = (let e = G.edges_le in omega arith);
-        joints-le = G.joints-le;
-        journal-le = G.journal-le;
-        members-wf = G.members-wf;
-        freed-wf = G.freed-wf;
-        contacts-wf =
-            (let e = G.contacts-wf.elems-below in
+        joints_le = G.joints_le;
+        journal_le = G.journal_le;
+        members_wf = G.members_wf;
+        freed_wf = G.freed_wf;
+        contacts_wf =
+            (let e = G.contacts_wf.elems_below in
             record {
-              elems-below = omega arith;
-              lists-below = G.contacts-wf.lists-below;
-              rules = shrink-rules (subst (λ (n : ℕ). Rules n X.islands (contacts-in Z T)) q G.contacts-wf.rules) b;
+              elems_below = omega arith;
+              lists_below = G.contacts_wf.lists_below;
+              rules = shrink-rules (subst (λ (n : ℕ). Rules n X.islands (contacts_in Z T)) q G.contacts_wf.rules) b;
             });
-        joints-wf = G.joints-wf;
-        spare-wf = G.spare-wf;
-        scan-wf = G.scan-wf;
+        joints_wf = G.joints_wf;
+        spare_wf = G.spare_wf;
+        scan_wf = G.scan_wf;
         slot = G.slot;
         island = G.island;
         seen = G.seen;
@@ -157,27 +157,27 @@ module _ (Z : Sizes) (X : Extents) (T : Tables) (G : Good Z X T) (l : ℕ) (q : 
         head = head-rule (o 5 (omega arith)) (o 6 (omega arith)) (o 8 (omega arith)) refl G.head;
       }
 
-  shrink-world : decode Z Y A ≡ tracked-set (decode Z X T) l
+  shrink-world : decode Z Y A ≡ tracked_set (decode Z X T) l
   shrink-world =
       world_is refl refl refl refl refl refl refl (rw (o 5 (omega arith), o 6 (omega arith))) (o 7 (omega arith)) (ap flag (o 8 (omega arith))) refl
 
-pub shrunk : {Z : Sizes} {t t' : List ℕ} (g l : ℕ) → Sound Z t → g < (extents (tables Z t)).edges → (contacts-in Z (tables Z t)).home g ≡ none → (extents (tables Z t)).edges ≡ l + 1
-    → (contacts-in Z (tables Z t)).home l ≡ none → Put (headAt Z) (headLong Z) t t' (set (tables Z t).head 2 l) → Does Z (contact-edge-removed g l) t Done t'
+pub shrunk : {Z : Sizes} {t t' : List ℕ} (g l : ℕ) → Sound Z t → g < (extents (tables Z t)).edges → (contacts_in Z (tables Z t)).home g ≡ none → (extents (tables Z t)).edges ≡ l + 1
+    → (contacts_in Z (tables Z t)).home l ≡ none → Put (head_at Z) (head_span Z) t t' (set (tables Z t).head 2 l) → Does Z (contact_edge_removed g l) t Done t'
 shrunk {Z} {t} {t'} g l S h b q n P =
     let T = tables Z t in
     let X = extents T in
     let G = S.good in
     let e = put-head Z t t' _ S.long P in
-    let a : extents (A Z X T G l q n) ≡ fewer-edges X l = after Z T (A Z X T G l q n) l (sized Z t S.long) refl in
+    let a : extents (A Z X T G l q n) ≡ fewer_edges X l = after Z T (A Z X T G l q n) l (sized Z t S.long) refl in
     let r = edge-done g l S h b q in
-    let k : contactHome (worldOf Z t) l ≡ top = contact-home S l (omega arith) ∙ n in
+    let k : contact_home (world_of Z t) l ≡ top = contact-home S l (omega arith) ∙ n in
     record {
-      sound = sound-at Z (fewer-edges X l) t' _ e a (P.same_length ∙ S.long) (shrink-good Z X T G l q n);
+      sound = sound-at Z (fewer_edges X l) t' _ e a (P.same_length ∙ S.long) (shrink-good Z X T G l q n);
       answer = sym (ap (λ (s : Step). s.answer) r);
       after =
-          world-at Z (fewer-edges X l) t' _ e a ∙ shrink-world Z X T G l q n ∙ ap (λ (w : World). tracked-set w l) (sym (world-at Z X t T refl refl))
-          ∙ ap (λ (w : World). tracked-set w l) (sym (renumbered-none g l (worldOf Z t) k)) ∙ sym (ap (λ (s : Step). s.after) r);
-      frame = kept_at Z (fewer-edges X l) t' _ e a T kept-head;
+          world-at Z (fewer_edges X l) t' _ e a ∙ shrink-world Z X T G l q n ∙ ap (λ (w : World). tracked_set w l) (sym (world-at Z X t T refl refl))
+          ∙ ap (λ (w : World). tracked_set w l) (sym (renumbered-none g l (world_of Z t) k)) ∙ sym (ap (λ (s : Step). s.after) r);
+      frame = kept_at Z (fewer_edges X l) t' _ e a T kept-head;
     }
 
 -- ---- lists of values
@@ -205,12 +205,12 @@ contact-is : {e a a' b b' c c' d d' : ℕ} → a ≡ a' → b ≡ b' → c ≡ c
 contact-is p q r s = rw (p, q, r, s)
 
 -- four words at j
-abbrev pub fourWords : (j a b c d : ℕ) → List (ℕ × ℕ)
-fourWords j a b c d = (j, a) ∷ (j + 1, b) ∷ (j + 2, c) ∷ (j + 3, d) ∷ []
+abbrev pub four_words : (j a b c d : ℕ) → List (ℕ × ℕ)
+four_words j a b c d = (j, a) ∷ (j + 1, b) ∷ (j + 2, c) ∷ (j + 3, d) ∷ []
 
 -- ---- the last edge is linked, and takes the number g
-module _ (Z : Sizes) (X : Extents) (T : Tables) (G : Good Z X T) (K : Sized Z T) (g l : ℕ) (q : X.edges ≡ l + 1) (gl : g < l) (gb : (contacts-in Z T).home g ≡ none)
-    (lh : (contacts-in Z T).home l ≢ none) where
+module _ (Z : Sizes) (X : Extents) (T : Tables) (G : Good Z X T) (K : Sized Z T) (g l : ℕ) (q : X.edges ≡ l + 1) (gl : g < l) (gb : (contacts_in Z T).home g ≡ none)
+    (lh : (contacts_in Z T).home l ≢ none) where
   abbrev N : ℕ
   N = Z.edges
 
@@ -218,10 +218,10 @@ module _ (Z : Sizes) (X : Extents) (T : Tables) (G : Good Z X T) (K : Sized Z T)
   m = X.islands
 
   abbrev S : View
-  S = contacts-in Z T
+  S = contacts_in Z T
 
   abbrev ready : RenameReady T.contacts 0 (4 * N) l g
-  ready = record { m = m; wf = subst (λ (n : ℕ). Wf T.contacts 0 (4 * N) n m) q G.contacts-wf; to-lt = gl; to-blank = gb; from-held = lh }
+  ready = record { m = m; wf = subst (λ (n : ℕ). Wf T.contacts 0 (4 * N) n m) q G.contacts_wf; to_lt = gl; to_blank = gb; from_held = lh }
 
   abbrev C : List ℕ
   C = words.renamed T.contacts 0 (4 * N) l g
@@ -233,22 +233,22 @@ module _ (Z : Sizes) (X : Extents) (T : Tables) (G : Good Z X T) (K : Sized Z T)
   at j = get_or T.touches (4 * l + j) 0
 
   abbrev ws : List (ℕ × ℕ)
-  ws = fourWords (4 * g) (get_or T.touches (4 * l) 0) (at 1) (at 2) (at 3)
+  ws = four_words (4 * g) (get_or T.touches (4 * l) 0) (at 1) (at 2) (at 3)
 
   abbrev U : List ℕ
   U = writes T.touches ws
 
   abbrev W : Tables
-  W = head-put (touches-put (contacts-put T C) U) (set T.head 2 l)
+  W = head_put (touches_put (contacts_put T C) U) (set T.head 2 l)
 
   abbrev F : Extents
-  F = fewer-edges X l
+  F = fewer_edges X l
 
   ho : (j : ℕ) → j ≢ 2 → get_or W.head j 0 ≡ get_or T.head j 0
   ho = head-o T.head l
 
   inside : 4 * l + 4 ≤ length T.touches
-  inside = let k = K.touches-length in let e = G.edges_le in omega arith
+  inside = let k = K.touches_length in let e = G.edges_le in omega arith
 
   u0 : get_or U (4 * g) 0 ≡ get_or T.touches (4 * l) 0
   u0 = let i = inside in hit T.touches [] (4 * g) (get_or T.touches (4 * l) 0) ((4 * g + 1, at 1) ∷ (4 * g + 2, at 2) ∷ (4 * g + 3, at 3) ∷ []) (omega arith) (omega arith)
@@ -272,24 +272,24 @@ module _ (Z : Sizes) (X : Extents) (T : Tables) (G : Good Z X T) (K : Sized Z T)
   hand-good =
       record {
         enough = G.enough;
-        slots-le = G.slots-le;
-        islands-le = G.islands-le;
+        slots_le = G.slots_le;
+        islands_le = G.islands_le;
         edges_le = (let e = G.edges_le in omega arith);
-        joints-le = G.joints-le;
-        journal-le = G.journal-le;
-        members-wf = G.members-wf;
-        freed-wf = G.freed-wf;
-        contacts-wf = D.wf-kept;
-        joints-wf = G.joints-wf;
-        spare-wf = G.spare-wf;
-        scan-wf = G.scan-wf;
+        joints_le = G.joints_le;
+        journal_le = G.journal_le;
+        members_wf = G.members_wf;
+        freed_wf = G.freed_wf;
+        contacts_wf = D.wf_kept;
+        joints_wf = G.joints_wf;
+        spare_wf = G.spare_wf;
+        scan_wf = G.scan_wf;
         slot = G.slot;
         island = λ i h. island-rule refl (D.count_same i h) refl refl refl refl refl (G.island i h);
         seen = G.seen;
         edge = λ k h.
-            either k g (λ s. subst (EdgeAt Z W) (sym s) (inr (λ e. lh (sym D.home-to ∙ e))))
+            either k g (λ s. subst (EdgeAt Z W) (sym s) (inr (λ e. lh (sym D.home_to ∙ e))))
             (λ d.
-            edge-rule (D.home-others k h d) (first k d) (other k 1 d (omega arith)) (other k 2 d (omega arith)) (other k 3 d (omega arith)) (G.edge k (omega arith)));
+            edge-rule (D.home_others k h d) (first k d) (other k 1 d (omega arith)) (other k 2 d (omega arith)) (other k 3 d (omega arith)) (G.edge k (omega arith)));
         joint = G.joint;
         distinct = G.distinct;
         head = head-rule (ho 5 (omega arith)) (ho 6 (omega arith)) (ho 8 (omega arith)) refl G.head;
@@ -297,7 +297,7 @@ module _ (Z : Sizes) (X : Extents) (T : Tables) (G : Good Z X T) (K : Sized Z T)
 
   -- ---- the links of each island
   R : Rules X.edges m S
-  R = G.contacts-wf.rules
+  R = G.contacts_wf.rules
 
   hl : Held X.edges m S l
   hl = held R l (omega arith) lh
@@ -309,10 +309,10 @@ module _ (Z : Sizes) (X : Extents) (T : Tables) (G : Good Z X T) (K : Sized Z T)
   p = S.place l
 
   abbrev f : ℕ → ContactLink
-  f = contactAt U
+  f = contact_at U
 
   abbrev f0 : ℕ → ContactLink
-  f0 = contactAt T.touches
+  f0 = contact_at T.touches
 
   link : (k : ℕ) → k ≢ g → f k ≡ f0 k
   link k d = contact-is (first k d) (other k 1 d (omega arith)) (other k 2 d (omega arith)) (miss T.touches ws (4 * k + 2 + 1) (omega arith))
@@ -329,33 +329,33 @@ module _ (Z : Sizes) (X : Extents) (T : Tables) (G : Good Z X T) (K : Sized Z T)
       map_same f f0 (list_of S j)
       (λ k kl.
       let x = get_or (list_of S j) k 0 in
-      let a : S.home x ≡ j = (list_at R j jl k (rw (length-list R j jl) at kl)).home-is in
-      link x (λ e. let c : S.home x ≡ S.home g = ap S.home e in let s = R.m-small in omega arith))
+      let a : S.home x ≡ j = (list_at R j jl k (rw (length-list R j jl) at kl)).home_is in
+      link x (λ e. let c : S.home x ≡ S.home g = ap S.home e in let s = R.m_small in omega arith))
 
-  links-i : map f (list_of (contacts-in Z W) i) ≡ set (map f0 (list_of S i)) p (renamed g (get_or (map f0 (list_of S i)) p noContact))
+  links-i : map f (list_of (contacts_in Z W) i) ≡ set (map f0 (list_of S i)) p (renamed g (get_or (map f0 (list_of S i)) p absent_contact))
   links-i =
-      let il = hl.home-lt in
+      let il = hl.home_lt in
       let L = list_of S i in
       let s = length-list R i il in
-      let pl : p < S.count i = hl.place-lt in
-      let c : get_or (map f0 L) p noContact ≡ f0 l = map_get f0 noContact L p (omega arith) ∙ ap f0 (list-of R i il l (omega arith) refl) in
-      ap (map f) D.list-f ∙ map-set f L p g ∙ ap (λ (xs : List ContactLink). set xs p (f g)) (still i il)
+      let pl : p < S.count i = hl.place_lt in
+      let c : get_or (map f0 L) p absent_contact ≡ f0 l = map_get f0 absent_contact L p (omega arith) ∙ ap f0 (list-of R i il l (omega arith) refl) in
+      ap (map f) D.list_f ∙ map-set f L p g ∙ ap (λ (xs : List ContactLink). set xs p (f g)) (still i il)
       ∙ ap (set (map f0 L) p) (link-g ∙ ap (renamed g) (sym c))
 
-  links-o : (j : ℕ) → j < m → j ≢ i → map f (list_of (contacts-in Z W) j) ≡ map f0 (list_of S j)
-  links-o j jl d = ap (map f) (D.list-o j jl d) ∙ still j jl
+  links-o : (j : ℕ) → j < m → j ≢ i → map f (list_of (contacts_in Z W) j) ≡ map f0 (list_of S j)
+  links-o j jl d = ap (map f) (D.list_o j jl d) ∙ still j jl
 
   abbrev relinked : Island → Island
-  relinked a = contacts-set a (set a.contact-links p (renamed g (get_or a.contact-links p noContact)))
+  relinked a = contacts_set a (set a.contact_links p (renamed g (get_or a.contact_links p absent_contact)))
 
-  hand-world : decode Z F W ≡ tracked-set (renumbered g l (decode Z X T)) l
-  unfolding island-set
+  hand-world : decode Z F W ≡ tracked_set (renumbered g l (decode Z X T)) l
+  unfolding island_set
   hand-world =
       let w = decode Z X T in
-      let il = hl.home-lt in
-      let s = R.m-small in
+      let il = hl.home_lt in
+      let s = R.m_small in
       world_is refl
-      (tabulate-set m i (islandIn Z W) (islandIn Z T) (relinked (islandAt w i))
+      (tabulate-set m i (island_in Z W) (island_in Z T) (relinked (island_at w i))
       (island-is refl links-i refl refl refl refl ∙ ap relinked (sym (island-at Z X T i il)))
       (λ j h d. island-is refl (links-o j h d) refl refl refl refl))
       refl refl refl refl refl
@@ -363,7 +363,7 @@ module _ (Z : Sizes) (X : Extents) (T : Tables) (G : Good Z X T) (K : Sized Z T)
       (ho 7 (omega arith))
       (ap flag (ho 8 (omega arith)))
       refl
-      ∙ ap (λ (v : World). tracked-set v l) (sym (renumbered-in g l w i p (home-held Z X T (good-loose G) l (omega arith) lh) (omega arith) (place-held Z X T (good-loose G) l (omega arith) lh)))
+      ∙ ap (λ (v : World). tracked_set v l) (sym (renumbered-in g l w i p (home-held Z X T (good-loose G) l (omega arith) lh) (omega arith) (place-held Z X T (good-loose G) l (omega arith) lh)))
 
   hand-kept : SameBehind Z F T W
   hand-kept =
@@ -371,7 +371,7 @@ module _ (Z : Sizes) (X : Extents) (T : Tables) (G : Good Z X T) (K : Sized Z T)
       (kept-contacts
       (record {
         elems = λ j a b. D.behind j (omega arith) (inl b);
-        ends = λ j a. (let e = G.contacts-wf.elems-below in D.behind j (omega arith) (inr a));
+        ends = λ j a. (let e = G.contacts_wf.elems_below in D.behind j (omega arith) (inr a));
       }))
       (kept_then (larger-refl F) (kept-touches (λ j h. miss T.touches ws j (omega arith))) kept-head)
 
@@ -379,36 +379,36 @@ module _ (Z : Sizes) (X : Extents) (T : Tables) (G : Good Z X T) (K : Sized Z T)
 pub rename-ready : {Z : Sizes} {t : List ℕ} {g l : ℕ} → Handing Z g l t → RenameReady (tables Z t).contacts 0 (4 * Z.edges) l g
 rename-ready {Z} {t} {g} {l} H =
     let T = tables Z t in
-    ready Z (extents T) T H.sound.good (sized Z t H.sound.long) g l H.edges-is H.to-lt H.to_free H.from-linked
+    ready Z (extents T) T H.sound.good (sized Z t H.sound.long) g l H.edges_is H.to_lt H.to_free H.from_linked
 
 pub handed : {Z : Sizes} {t t1 t2 t3 : List ℕ} (g l a b c d : ℕ) → Handing Z g l t → a ≡ get_or (tables Z t).touches (4 * l) 0 → b ≡ get_or (tables Z t).touches (4 * l + 1) 0
     → c ≡ get_or (tables Z t).touches (4 * l + 2) 0 → d ≡ get_or (tables Z t).touches (4 * l + 3) 0
-    → Put (contactsAt Z) (contactsLong Z) t t1 (words.renamed (tables Z t).contacts 0 (4 * Z.edges) l g)
-    → Put (touchesAt Z) (touchesLong Z) t1 t2 (writes (tables Z t1).touches (fourWords (4 * g) a b c d))
-    → Put (headAt Z) (headLong Z) t2 t3 (set (tables Z t2).head 2 l) → Does Z (contact-edge-removed g l) t Done t3
+    → Put (contacts_at Z) (contacts_span Z) t t1 (words.renamed (tables Z t).contacts 0 (4 * Z.edges) l g)
+    → Put (touches_at Z) (touches_span Z) t1 t2 (writes (tables Z t1).touches (four_words (4 * g) a b c d))
+    → Put (head_at Z) (head_span Z) t2 t3 (set (tables Z t2).head 2 l) → Does Z (contact_edge_removed g l) t Done t3
 handed {Z} {t} {t1} {t2} {t3} g l a b c d H ea eb ec ed P1 P2 P3 =
     let T = tables Z t in
     let X = extents T in
     let E = H.sound in
     let G = E.good in
     let K = sized Z t E.long in
-    let q = H.edges-is in
-    let gl = H.to-lt in
+    let q = H.edges_is in
+    let gl = H.to_lt in
     let gb = H.to_free in
-    let lh = H.from-linked in
+    let lh = H.from_linked in
     let h1 : length t1 ≡ total Z = P1.same_length ∙ E.long in
     let h2 : length t2 ≡ total Z = P2.same_length ∙ h1 in
     let e1 = put-contacts Z t t1 _ E.long P1 in
-    let e2 = put-touches Z t1 t2 _ h1 P2 ∙ ap (λ (M : Tables). touches-put M (writes M.touches (fourWords (4 * g) a b c d))) e1 in
-    let e3 = put-head Z t2 t3 _ h2 P3 ∙ ap (λ (M : Tables). head-put M (set M.head 2 l)) e2 in
+    let e2 = put-touches Z t1 t2 _ h1 P2 ∙ ap (λ (M : Tables). touches_put M (writes M.touches (four_words (4 * g) a b c d))) e1 in
+    let e3 = put-head Z t2 t3 _ h2 P3 ∙ ap (λ (M : Tables). head_put M (set M.head 2 l)) e2 in
     let e : tables Z t3 ≡ W Z X T G K g l q gl gb lh = rw (ea, eb, ec, ed) at e3 in
-    let r : extents (W Z X T G K g l q gl gb lh) ≡ fewer-edges X l = after Z T (W Z X T G K g l q gl gb lh) l K refl in
+    let r : extents (W Z X T G K g l q gl gb lh) ≡ fewer_edges X l = after Z T (W Z X T G K g l q gl gb lh) l K refl in
     let s = edge-done g l E (omega arith) gb q in
     record {
-      sound = sound-at Z (fewer-edges X l) t3 _ e r (P3.same_length ∙ h2) (hand-good Z X T G K g l q gl gb lh);
+      sound = sound-at Z (fewer_edges X l) t3 _ e r (P3.same_length ∙ h2) (hand-good Z X T G K g l q gl gb lh);
       answer = sym (ap (λ (s : Step). s.answer) s);
       after =
-          world-at Z (fewer-edges X l) t3 _ e r ∙ hand-world Z X T G K g l q gl gb lh ∙ ap (λ (w : World). tracked-set (renumbered g l w) l) (sym (world-at Z X t T refl refl))
+          world-at Z (fewer_edges X l) t3 _ e r ∙ hand-world Z X T G K g l q gl gb lh ∙ ap (λ (w : World). tracked_set (renumbered g l w) l) (sym (world-at Z X t T refl refl))
           ∙ sym (ap (λ (s : Step). s.after) s);
-      frame = kept_at Z (fewer-edges X l) t3 _ e r T (hand-kept Z X T G K g l q gl gb lh);
+      frame = kept_at Z (fewer_edges X l) t3 _ e r T (hand-kept Z X T G K g l q gl gb lh);
     }

@@ -8,17 +8,17 @@ use Rattle.def_kinds.specs.declared.Answer.{Answer}
 use Rattle.def_kinds.specs.declared.Answer.TheVariants.{Done}
 use Rattle.def_state.specs.World.{World, Step, done, gives}
 use Rattle.table_meaning.specs.Layout.{tables, extents}
-use Rattle.table_meaning.specs.Decode.{worldOf}
+use Rattle.table_meaning.specs.Decode.{world_of}
 use Rattle.table_meaning.specs.Sound.{Sound}
 use Rattle.table_meaning.specs.Does.{Does}
 use Rattle.table_meaning.specs.Larger.{Larger}
 use Rattle.table_meaning.proofs.Frame.{kept_refl, kept_then}
 
 -- answered r, and nothing changed
-pub refused : {Z : Sizes} {t : List ℕ} (f : World → Step) (r : Answer) → Sound Z t → f (worldOf Z t) ≡ gives r (worldOf Z t) → Does Z f t r t
+pub refused : {Z : Sizes} {t : List ℕ} (f : World → Step) (r : Answer) → Sound Z t → f (world_of Z t) ≡ gives r (world_of Z t) → Does Z f t r t
 refused f r S e = record { sound = S; answer = sym (ap (λ (x : Step). x.answer) e); after = sym (ap (λ (x : Step). x.after) e); frame = kept_refl }
 
-pub does-as : {Z : Sizes} {t u : List ℕ} {r : Answer} (f g : World → Step) → f (worldOf Z t) ≡ g (worldOf Z t) → Does Z f t r u → Does Z g t r u
+pub does-as : {Z : Sizes} {t u : List ℕ} {r : Answer} (f g : World → Step) → f (world_of Z t) ≡ g (world_of Z t) → Does Z f t r u → Does Z g t r u
 does-as f g e D = record { sound = D.sound; answer = D.answer ∙ ap (λ (x : Step). x.answer) e; after = D.after ∙ ap (λ (x : Step). x.after) e; frame = D.frame }
 
 pub does-then : {Z : Sizes} {t t1 t2 : List ℕ} {r r' : Answer} (f g : World → Step) → Larger (extents (tables Z t1)) (extents (tables Z t2)) → Does Z f t r t1 → Does Z g t1 r' t2

@@ -11,31 +11,31 @@ use Rattle.list_in_table.proofs.Laws.{either, held}
 use Rattle.list_in_table.proofs.Order.{list-of}
 use Rattle.def_kinds.specs.declared.Sizes.{Sizes}
 use Rattle.def_state.specs.Plain.{top, has, place_of}
-use Rattle.def_state.specs.World.{ContactLink, noContact, Island, noIsland, World, islandAt}
-use Rattle.def_state.specs.Links.{edgesOf, contactBelow, contactHome}
-use Rattle.table_meaning.specs.Layout.{Tables, tables, Extents, extents, contacts-in}
-use Rattle.table_meaning.specs.Decode.{contactAt, islandIn, decode, worldOf}
+use Rattle.def_state.specs.World.{ContactLink, absent_contact, Island, absent_island, World, island_at}
+use Rattle.def_state.specs.Links.{edges_of, contact_below, contact_home}
+use Rattle.table_meaning.specs.Layout.{Tables, tables, Extents, extents, contacts_in}
+use Rattle.table_meaning.specs.Decode.{contact_at, island_in, decode, world_of}
 use Rattle.table_meaning.specs.Sound.{Sound}
 use Rattle.table_meaning.proofs.Tab.{length-tabulate}
 use Rattle.core_laws.specs.Loose.{Loose}
 use Rattle.core_laws.proofs.Loose.{good-loose}
-use Rattle.core_laws.proofs.Names.{listed-no, listed-yes, listed-place, listed-lt, island-at}
+use Rattle.core_laws.proofs.Names.{listed-no, listed-yes, listed_place, listed_lt, island-at}
 
-below-no : (is : List Island) (e k : ℕ) → ((i : ℕ) → i < k → has (edgesOf (get_or is i noIsland)) e ≡ false) → contactBelow is e k ≡ top
-unfolding contactBelow
+below-no : (is : List Island) (e k : ℕ) → ((i : ℕ) → i < k → has (edges_of (get_or is i absent_island)) e ≡ false) → contact_below is e k ≡ top
+unfolding contact_below
 below-no is e zero h = refl
 below-no is e (suc k) h = rw (h k (omega arith)) (below-no is e k (λ i l. h i (omega arith)))
 
-below-yes : (is : List Island) (e i k : ℕ) → i < k → has (edgesOf (get_or is i noIsland)) e ≡ true → ((j : ℕ) → j < k → j ≢ i → has (edgesOf (get_or is j noIsland)) e ≡ false)
-    → contactBelow is e k ≡ i
-unfolding contactBelow
+below-yes : (is : List Island) (e i k : ℕ) → i < k → has (edges_of (get_or is i absent_island)) e ≡ true → ((j : ℕ) → j < k → j ≢ i → has (edges_of (get_or is j absent_island)) e ≡ false)
+    → contact_below is e k ≡ i
+unfolding contact_below
 below-yes is e i zero l y h = absurd (omega arith)
 below-yes is e i (suc k) l y h =
-    either k i (λ s. let y' : has (edgesOf (get_or is k noIsland)) e ≡ true = rw s y in rw y' s)
+    either k i (λ s. let y' : has (edges_of (get_or is k absent_island)) e ≡ true = rw s y in rw y' s)
     (λ d. rw (h k (omega arith) d) (below-yes is e i k (omega arith) y (λ j jl o. h j (omega arith) o)))
 
 -- the values of a list's numbers: their own numbers, and the one at a place
-numbers : (x es : List ℕ) → map (λ (l : ContactLink). l.edge_id) (map (contactAt x) es) ≡ es
+numbers : (x es : List ℕ) → map (λ (l : ContactLink). l.edge_id) (map (contact_at x) es) ≡ es
 numbers x [] = refl
 numbers x (e ∷ es) = ap (λ (ys : List ℕ). e ∷ ys) (numbers x es)
 
@@ -49,78 +49,78 @@ module _ (Z : Sizes) (X : Extents) (T : Tables) (G : Loose Z X T) where
   w = decode Z X T
 
   abbrev S : View
-  S = contacts-in Z T
+  S = contacts_in Z T
 
   R : Rules X.edges X.islands S
-  R = G.contacts-wf.rules
+  R = G.contacts_wf.rules
 
-  edges-in : (i : ℕ) → i < X.islands → edgesOf (islandAt w i) ≡ list_of S i
+  edges-in : (i : ℕ) → i < X.islands → edges_of (island_at w i) ≡ list_of S i
   edges-in i l = rw (island-at Z X T i l) (numbers T.touches (list_of S i))
 
-  not_in : (e i : ℕ) → i < X.islands → (e < X.edges → S.home e ≢ i) → has (edgesOf (islandAt w i)) e ≡ false
+  not_in : (e i : ℕ) → i < X.islands → (e < X.edges → S.home e ≢ i) → has (edges_of (island_at w i)) e ≡ false
   not_in e i l d = rw (edges-in i l) (listed-no R i e l d)
 
-  home-far : (e : ℕ) → X.edges ≤ e → contactHome w e ≡ top
-  unfolding contactHome
+  home-far : (e : ℕ) → X.edges ≤ e → contact_home w e ≡ top
+  unfolding contact_home
   home-far e l =
-      rw (length-tabulate X.islands (islandIn Z T))
+      rw (length-tabulate X.islands (island_in Z T))
       (below-no w.islands e X.islands (λ i il. not_in e i il (λ (h : e < X.edges). absurd (omega arith))))
 
-  home-none : (e : ℕ) → S.home e ≡ none → contactHome w e ≡ top
-  unfolding contactHome
-  home-none e q =
-      rw (length-tabulate X.islands (islandIn Z T))
-      (below-no w.islands e X.islands (λ i il. not_in e i il (λ h s. (let o = R.m-small in omega arith))))
+  home_none : (e : ℕ) → S.home e ≡ none → contact_home w e ≡ top
+  unfolding contact_home
+  home_none e q =
+      rw (length-tabulate X.islands (island_in Z T))
+      (below-no w.islands e X.islands (λ i il. not_in e i il (λ h s. (let o = R.m_small in omega arith))))
 
   module _ (e : ℕ) (el : e < X.edges) (d : S.home e ≢ none) where
     il : S.home e < X.islands
-    il = (held R e el d).home-lt
+    il = (held R e el d).home_lt
 
-    pub home-held : contactHome w e ≡ S.home e
-    unfolding contactHome
+    pub home-held : contact_home w e ≡ S.home e
+    unfolding contact_home
     home-held =
-        rw (length-tabulate X.islands (islandIn Z T))
+        rw (length-tabulate X.islands (island_in Z T))
         (below-yes w.islands e (S.home e) X.islands il (rw (edges-in (S.home e) il) (listed-yes R e el il))
         (λ j jl o. not_in e j jl (λ h s. o (sym s))))
 
-    pub place-held : place_of (edgesOf (islandAt w (S.home e))) e ≡ S.place e
-    place-held = rw (edges-in (S.home e) il) (listed-place R e el il)
+    pub place-held : place_of (edges_of (island_at w (S.home e))) e ≡ S.place e
+    place-held = rw (edges-in (S.home e) il) (listed_place R e el il)
 
-    pub link-held : get_or (islandAt w (S.home e)).contact-links (S.place e) noContact ≡ contactAt T.touches e
+    pub link-held : get_or (island_at w (S.home e)).contact_links (S.place e) absent_contact ≡ contact_at T.touches e
     link-held =
         rw (island-at Z X T (S.home e) il)
-        (value-at (contactAt T.touches) noContact (list_of S (S.home e)) (S.place e) (listed-lt R e el il)
-        ∙ ap (contactAt T.touches) (list-of R (S.home e) il e el refl))
+        (value-at (contact_at T.touches) absent_contact (list_of S (S.home e)) (S.place e) (listed_lt R e el il)
+        ∙ ap (contact_at T.touches) (list-of R (S.home e) il e el refl))
 
 -- the same of a buffer
 module _ {Z : Sizes} {t : List ℕ} (S : Sound Z t) (e : ℕ) where
   -- behind the tracked length nothing is linked
-  pub contact-far : (extents (tables Z t)).edges ≤ e → contactHome (worldOf Z t) e ≡ top
-  unfolding worldOf
+  pub contact-far : (extents (tables Z t)).edges ≤ e → contact_home (world_of Z t) e ≡ top
+  unfolding world_of
   contact-far l = home-far Z (extents (tables Z t)) (tables Z t) (good-loose S.good) e l
 
-  pub contact-none : (contacts-in Z (tables Z t)).home e ≡ none → contactHome (worldOf Z t) e ≡ top
-  unfolding worldOf
-  contact-none q = home-none Z (extents (tables Z t)) (tables Z t) (good-loose S.good) e q
+  pub contact-none : (contacts_in Z (tables Z t)).home e ≡ none → contact_home (world_of Z t) e ≡ top
+  unfolding world_of
+  contact-none q = home_none Z (extents (tables Z t)) (tables Z t) (good-loose S.good) e q
 
   module _ (el : e < (extents (tables Z t)).edges) where
     -- the island that has the edge is the home that its words name
-    pub contact-home : contactHome (worldOf Z t) e ≡ (contacts-in Z (tables Z t)).home e
-    unfolding worldOf
+    pub contact-home : contact_home (world_of Z t) e ≡ (contacts_in Z (tables Z t)).home e
+    unfolding world_of
     contact-home =
-        either ((contacts-in Z (tables Z t)).home e) none (λ q. contact-none q ∙ sym q)
+        either ((contacts_in Z (tables Z t)).home e) none (λ q. contact-none q ∙ sym q)
         (λ d. home-held Z (extents (tables Z t)) (tables Z t) (good-loose S.good) e el d)
 
-    module _ (d : (contacts-in Z (tables Z t)).home e ≢ none) where
-      pub contact-island : (contacts-in Z (tables Z t)).home e < (extents (tables Z t)).islands
+    module _ (d : (contacts_in Z (tables Z t)).home e ≢ none) where
+      pub contact-island : (contacts_in Z (tables Z t)).home e < (extents (tables Z t)).islands
       contact-island = il Z (extents (tables Z t)) (tables Z t) (good-loose S.good) e el d
 
       -- the place at which its list has it
-      pub contact-place : place_of (edgesOf (islandAt (worldOf Z t) ((contacts-in Z (tables Z t)).home e))) e ≡ (contacts-in Z (tables Z t)).place e
-      unfolding worldOf
+      pub contact-place : place_of (edges_of (island_at (world_of Z t) ((contacts_in Z (tables Z t)).home e))) e ≡ (contacts_in Z (tables Z t)).place e
+      unfolding world_of
       contact-place = place-held Z (extents (tables Z t)) (tables Z t) (good-loose S.good) e el d
 
       -- and its link there
-      pub contact-link : get_or (islandAt (worldOf Z t) ((contacts-in Z (tables Z t)).home e)).contact-links ((contacts-in Z (tables Z t)).place e) noContact ≡ contactAt (tables Z t).touches e
-      unfolding worldOf
+      pub contact-link : get_or (island_at (world_of Z t) ((contacts_in Z (tables Z t)).home e)).contact_links ((contacts_in Z (tables Z t)).place e) absent_contact ≡ contact_at (tables Z t).touches e
+      unfolding world_of
       contact-link = link-held Z (extents (tables Z t)) (tables Z t) (good-loose S.good) e el d

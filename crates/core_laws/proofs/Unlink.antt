@@ -13,136 +13,136 @@ use Rattle.list_in_table.proofs.Laws.{held}
 use Rattle.def_kinds.specs.declared.Sizes.{Sizes}
 use Rattle.def_kinds.specs.declared.Answer.TheVariants.{Done, Nothing, JournalFull}
 use Rattle.def_state.specs.Plain.{top, place_of}
-use Rattle.def_state.specs.World.{ContactLink, noContact, World, Step, done, gives, islandAt, named, body-island}
-use Rattle.def_state.specs.Fields.{island-set}
-use Rattle.def_state.specs.Links.{edgesOf, contactHome, sameHandle, journal-removal, journalRefuses, contact-removed, unlink-contact}
-use Rattle.table_meaning.specs.Layout.{tables, extents, members-in, contacts-in}
-use Rattle.table_meaning.specs.Decode.{contactAt, worldOf}
+use Rattle.def_state.specs.World.{ContactLink, absent_contact, World, Step, done, gives, island_at, named, body_island}
+use Rattle.def_state.specs.Fields.{island_set}
+use Rattle.def_state.specs.Links.{edges_of, contact_home, same_handle, journal_removal, journal_refuses, contact_removed, unlink_contact}
+use Rattle.table_meaning.specs.Layout.{tables, extents, members_in, contacts_in}
+use Rattle.table_meaning.specs.Decode.{contact_at, world_of}
 use Rattle.table_meaning.specs.Sound.{Sound}
 use Rattle.table_meaning.specs.Does.{Does}
-use Rattle.table_meaning.proofs.Unique.{journal-is}
+use Rattle.table_meaning.proofs.Unique.{journal_is}
 use Rattle.core_laws.specs.Steps.{handle, Steps}
-use Rattle.core_laws.specs.Linking.{contactOf, contact-remove, journalled}
+use Rattle.core_laws.specs.Linking.{contact_of, contact_remove, journalled}
 use Rattle.core_laws.specs.Lives.{Lives}
 use Rattle.core_laws.proofs.Then.{refused, does-as, does-then}
-use Rattle.core_laws.proofs.Names.{named-is, home-is}
+use Rattle.core_laws.proofs.Names.{named_is, home_is}
 use Rattle.core_laws.proofs.OneContact.{contact-is}
 use Rattle.core_laws.proofs.Touching.{contact-far, contact-none, contact-home, contact-place, contact-link}
 
 -- ---- the same body, in numbers
-pub handles-slot : (a b c d : ℕ) → a ≢ c → sameHandle (handle a b) (handle c d) ≡ false
-unfolding sameHandle
+pub handles-slot : (a b c d : ℕ) → a ≢ c → same_handle (handle a b) (handle c d) ≡ false
+unfolding same_handle
 handles-slot a b c d n = rw (ne_eqb a c n)
 
-pub handles-generation : (a b c d : ℕ) → a ≡ c → b ≢ d → sameHandle (handle a b) (handle c d) ≡ false
-unfolding sameHandle
+pub handles-generation : (a b c d : ℕ) → a ≡ c → b ≢ d → same_handle (handle a b) (handle c d) ≡ false
+unfolding same_handle
 handles-generation a b c d q n = rw (eq-eqb a c q, ne_eqb b d n)
 
-pub handles-same : (a b c d : ℕ) → a ≡ c → b ≡ d → sameHandle (handle a b) (handle c d) ≡ true
-unfolding sameHandle
+pub handles-same : (a b c d : ℕ) → a ≡ c → b ≡ d → same_handle (handle a b) (handle c d) ≡ true
+unfolding same_handle
 handles-same a b c d q r = rw (eq-eqb a c q, eq-eqb b d r)
 
--- ---- what unlink-contact says of an edge whose island i, place p and link l are known
+-- ---- what unlink_contact says of an edge whose island i, place p and link l are known
 module _ (Z : Sizes) (e i p : ℕ) (l : ContactLink) (w : World) where
-  unlink-none : contactHome w e ≡ top → unlink-contact Z e w ≡ gives Nothing w
-  unfolding unlink-contact
-  unlink-none q = rw (eq-eqb (contactHome w e) top q)
+  unlink-none : contact_home w e ≡ top → unlink_contact Z e w ≡ gives Nothing w
+  unfolding unlink_contact
+  unlink-none q = rw (eq-eqb (contact_home w e) top q)
 
   -- the three cases
   outcome : Step
-  outcome = pick (journalRefuses Z l.body1 l.body2 w) (gives JournalFull w) (done (journal-removal l.body1 l.body2 (contact-removed i p w)))
+  outcome = pick (journal_refuses Z l.body1 l.body2 w) (gives JournalFull w) (done (journal_removal l.body1 l.body2 (contact_removed i p w)))
 
-  module _ (hi : contactHome w e ≡ i) (d : i ≢ top) (hp : place_of (edgesOf (islandAt w i)) e ≡ p) (hl : get_or (islandAt w i).contact-links p noContact ≡ l) where
-    unlink-some : unlink-contact Z e w ≡ outcome
-    unfolding unlink-contact outcome
+  module _ (hi : contact_home w e ≡ i) (d : i ≢ top) (hp : place_of (edges_of (island_at w i)) e ≡ p) (hl : get_or (island_at w i).contact_links p absent_contact ≡ l) where
+    unlink-some : unlink_contact Z e w ≡ outcome
+    unfolding unlink_contact outcome
     unlink-some = rw (hi, ne_eqb i top d, hp, hl)
 
-    module _ (s : sameHandle l.body1 l.body2 ≡ true) where
-      unlink-same : unlink-contact Z e w ≡ done (contact-removed i p w)
-      unfolding outcome journalRefuses journal-removal
+    module _ (s : same_handle l.body1 l.body2 ≡ true) where
+      unlink-same : unlink_contact Z e w ≡ done (contact_removed i p w)
+      unfolding outcome journal_refuses journal_removal
       unlink-same = unlink-some ∙ rw s
 
-    module _ (s : sameHandle l.body1 l.body2 ≡ false) where
-      unlink-full : Z.journal ≤ length w.removal-journal → unlink-contact Z e w ≡ gives JournalFull w
-      unfolding outcome journalRefuses
-      unlink-full h = unlink-some ∙ rw (s, le-leb Z.journal (length w.removal-journal) h)
+    module _ (s : same_handle l.body1 l.body2 ≡ false) where
+      unlink-full : Z.journal ≤ length w.removal_journal → unlink_contact Z e w ≡ gives JournalFull w
+      unfolding outcome journal_refuses
+      unlink-full h = unlink-some ∙ rw (s, le-leb Z.journal (length w.removal_journal) h)
 
-      unlink-other : length w.removal-journal < Z.journal → unlink-contact Z e w ≡ journalled l.body1 l.body2 (contact-removed i p w)
-      unfolding outcome journalRefuses journal-removal journalled
-      unlink-other h = unlink-some ∙ rw (s, lt-leb Z.journal (length w.removal-journal) h)
+      unlink-other : length w.removal_journal < Z.journal → unlink_contact Z e w ≡ journalled l.body1 l.body2 (contact_removed i p w)
+      unfolding outcome journal_refuses journal_removal journalled
+      unlink-other h = unlink-some ∙ rw (s, lt-leb Z.journal (length w.removal_journal) h)
 
 -- the words of a link
-pub link-words : (x : List ℕ) (e a b c d : ℕ) → a ≡ get_or x (4 * e) 0 → b ≡ get_or x (4 * e + 1) 0 → c ≡ get_or x (4 * e + 2) 0 → d ≡ get_or x (4 * e + 3) 0 → contactAt x e ≡ contactOf e a b c d
+pub link-words : (x : List ℕ) (e a b c d : ℕ) → a ≡ get_or x (4 * e) 0 → b ≡ get_or x (4 * e + 1) 0 → c ≡ get_or x (4 * e + 2) 0 → d ≡ get_or x (4 * e + 3) 0 → contact_at x e ≡ contact_of e a b c d
 link-words x e a b c d p q r s = let k : 4 * e + 2 + 1 ≡ 4 * e + 3 = omega arith in contact-is (sym p) (sym q) (sym r) (ap (λ (j : ℕ). get_or x j 0) k ∙ sym s)
 
 -- ---- the same of a buffer
 module _ {Z : Sizes} {t : List ℕ} (e : ℕ) (S : Sound Z t) where
-  pub unlinked-far : (extents (tables Z t)).edges ≤ e → Does Z (unlink-contact Z e) t Nothing t
-  unlinked-far h = refused (unlink-contact Z e) Nothing S (unlink-none Z e 0 0 noContact (worldOf Z t) (contact-far S e h))
+  pub unlinked-far : (extents (tables Z t)).edges ≤ e → Does Z (unlink_contact Z e) t Nothing t
+  unlinked-far h = refused (unlink_contact Z e) Nothing S (unlink-none Z e 0 0 absent_contact (world_of Z t) (contact-far S e h))
 
-  pub unlinked-none : (contacts-in Z (tables Z t)).home e ≡ none → Does Z (unlink-contact Z e) t Nothing t
-  unlinked-none q = refused (unlink-contact Z e) Nothing S (unlink-none Z e 0 0 noContact (worldOf Z t) (contact-none S e q))
+  pub unlinked-none : (contacts_in Z (tables Z t)).home e ≡ none → Does Z (unlink_contact Z e) t Nothing t
+  unlinked-none q = refused (unlink_contact Z e) Nothing S (unlink-none Z e 0 0 absent_contact (world_of Z t) (contact-none S e q))
 
   -- linked, with the words s1, g1, s2, g2
-  module _ (el : e < (extents (tables Z t)).edges) (d : (contacts-in Z (tables Z t)).home e ≢ none) (s1 g1 s2 g2 : ℕ) (q : contactAt (tables Z t).touches e ≡ contactOf e s1 g1 s2 g2) where
+  module _ (el : e < (extents (tables Z t)).edges) (d : (contacts_in Z (tables Z t)).home e ≢ none) (s1 g1 s2 g2 : ℕ) (q : contact_at (tables Z t).touches e ≡ contact_of e s1 g1 s2 g2) where
     abbrev w : World
-    w = worldOf Z t
+    w = world_of Z t
 
     abbrev i : ℕ
-    i = (contacts-in Z (tables Z t)).home e
+    i = (contacts_in Z (tables Z t)).home e
 
     abbrev p : ℕ
-    p = (contacts-in Z (tables Z t)).place e
+    p = (contacts_in Z (tables Z t)).place e
 
     abbrev l : ContactLink
-    l = contactOf e s1 g1 s2 g2
+    l = contact_of e s1 g1 s2 g2
 
-    link-is : get_or (islandAt w i).contact-links p noContact ≡ l
+    link-is : get_or (island_at w i).contact_links p absent_contact ≡ l
     link-is = contact-link S e el d ∙ q
 
-    module _ (s : sameHandle (handle s1 g1) (handle s2 g2) ≡ true) where
-      pub unlinked-same : {t1 : List ℕ} → Steps Z (contact-remove i p) t t1 → Does Z (unlink-contact Z e) t Done t1
-      unfolding contact-remove
+    module _ (s : same_handle (handle s1 g1) (handle s2 g2) ≡ true) where
+      pub unlinked-same : {t1 : List ℕ} → Steps Z (contact_remove i p) t t1 → Does Z (unlink_contact Z e) t Done t1
+      unfolding contact_remove
       unlinked-same A =
-          does-as (contact-remove i p) (unlink-contact Z e) (sym (unlink-same Z e i p l w (contact-home S e el) d (contact-place S e el d) link-is s)) A.does
+          does-as (contact_remove i p) (unlink_contact Z e) (sym (unlink-same Z e i p l w (contact-home S e el) d (contact-place S e el d) link-is s)) A.does
 
-    module _ (s : sameHandle (handle s1 g1) (handle s2 g2) ≡ false) where
-      pub unlinked-full : Z.journal ≤ (extents (tables Z t)).journal → Does Z (unlink-contact Z e) t JournalFull t
+    module _ (s : same_handle (handle s1 g1) (handle s2 g2) ≡ false) where
+      pub unlinked-full : Z.journal ≤ (extents (tables Z t)).journal → Does Z (unlink_contact Z e) t JournalFull t
       unlinked-full h =
-          refused (unlink-contact Z e) JournalFull S
-          (unlink-full Z e i p l w (contact-home S e el) d (contact-place S e el d) link-is s (let r = journal-is Z t in omega arith))
+          refused (unlink_contact Z e) JournalFull S
+          (unlink-full Z e i p l w (contact-home S e el) d (contact-place S e el d) link-is s (let r = journal_is Z t in omega arith))
 
-      pub unlinked-other : {t1 t2 : List ℕ} → (extents (tables Z t)).journal < Z.journal → Steps Z (contact-remove i p) t t1 → Steps Z (journalled (handle s1 g1) (handle s2 g2)) t1 t2
-          → Does Z (unlink-contact Z e) t Done t2
-      unfolding contact-remove
+      pub unlinked-other : {t1 t2 : List ℕ} → (extents (tables Z t)).journal < Z.journal → Steps Z (contact_remove i p) t t1 → Steps Z (journalled (handle s1 g1) (handle s2 g2)) t1 t2
+          → Does Z (unlink_contact Z e) t Done t2
+      unfolding contact_remove
       unlinked-other h A B =
-          does-as _ (unlink-contact Z e)
-          (sym (unlink-other Z e i p l w (contact-home S e el) d (contact-place S e el d) link-is s (let r = journal-is Z t in omega arith)))
-          (does-then (contact-remove i p) (journalled (handle s1 g1) (handle s2 g2)) B.larger A.does B.does)
+          does-as _ (unlink_contact Z e)
+          (sym (unlink-other Z e i p l w (contact-home S e el) d (contact-place S e el d) link-is s (let r = journal_is Z t in omega arith)))
+          (does-then (contact_remove i p) (journalled (handle s1 g1) (handle s2 g2)) B.larger A.does B.does)
 
 -- no entry comes by it
-pub removed-journal : {Z : Sizes} {t t1 : List ℕ} (i p : ℕ) → Steps Z (contact-remove i p) t t1 → (extents (tables Z t1)).journal ≡ (extents (tables Z t)).journal
-unfolding contact-remove contact-removed island-set
-removed-journal {Z} {t} {t1} i p A = sym (journal-is Z t1) ∙ ap (λ (w : World). length w.removal-journal) A.does.after ∙ journal-is Z t
+pub removed-journal : {Z : Sizes} {t t1 : List ℕ} (i p : ℕ) → Steps Z (contact_remove i p) t t1 → (extents (tables Z t1)).journal ≡ (extents (tables Z t)).journal
+unfolding contact_remove contact_removed island_set
+removed-journal {Z} {t} {t1} i p A = sym (journal_is Z t1) ∙ ap (λ (w : World). length w.removal_journal) A.does.after ∙ journal_is Z t
 
 -- ---- the island of a body
-pub island-unnamed : (s g : ℕ) (w : World) → named w (handle s g) ≡ false → body-island w (handle s g) ≡ none
-unfolding body-island
+pub island-unnamed : (s g : ℕ) (w : World) → named w (handle s g) ≡ false → body_island w (handle s g) ≡ none
+unfolding body_island
 island-unnamed s g w e = rw e
 
 -- an island that a slot in use names is live
-pub home-lives : {Z : Sizes} {t : List ℕ} (s : ℕ) → Sound Z t → s < (extents (tables Z t)).slots → (members-in Z (tables Z t)).home s ≢ none → Lives Z t ((members-in Z (tables Z t)).home s)
-home-lives s S sl d = let h = held S.good.members-wf.rules s sl d in record { in_use = h.home-lt; some = λ q. (let p = h.place-lt in omega arith) }
+pub home-lives : {Z : Sizes} {t : List ℕ} (s : ℕ) → Sound Z t → s < (extents (tables Z t)).slots → (members_in Z (tables Z t)).home s ≢ none → Lives Z t ((members_in Z (tables Z t)).home s)
+home-lives s S sl d = let h = held S.good.members_wf.rules s sl d in record { in_use = h.home_lt; some = λ q. (let p = h.place_lt in omega arith) }
 
 module _ {Z : Sizes} {t : List ℕ} (s g : ℕ) where
-  pub island-named : Sound Z t → named (worldOf Z t) (handle s g) ≡ true → body-island (worldOf Z t) (handle s g) ≡ (members-in Z (tables Z t)).home s
-  unfolding body-island
-  island-named S e = rw e (home-is Z t s g S (named-is Z t s g e).slot_lt)
+  pub island-named : Sound Z t → named (world_of Z t) (handle s g) ≡ true → body_island (world_of Z t) (handle s g) ≡ (members_in Z (tables Z t)).home s
+  unfolding body_island
+  island-named S e = rw e (home_is Z t s g S (named_is Z t s g e).slot_lt)
 
   -- none, or a live island in use
-  pub island-lives : Sound Z t → body-island (worldOf Z t) (handle s g) ≢ none → Lives Z t (body-island (worldOf Z t) (handle s g))
-  island-lives S d = go (named (worldOf Z t) (handle s g)) refl
+  pub island-lives : Sound Z t → body_island (world_of Z t) (handle s g) ≢ none → Lives Z t (body_island (world_of Z t) (handle s g))
+  island-lives S d = go (named (world_of Z t) (handle s g)) refl
     where
-      go : (b : Bool) → named (worldOf Z t) (handle s g) ≡ b → Lives Z t (body-island (worldOf Z t) (handle s g))
-      go false e = absurd (d (island-unnamed s g (worldOf Z t) e))
-      go true e = let q = island-named S e in rw q (home-lives s S (named-is Z t s g e).slot_lt (λ x. d (q ∙ x)))
+      go : (b : Bool) → named (world_of Z t) (handle s g) ≡ b → Lives Z t (body_island (world_of Z t) (handle s g))
+      go false e = absurd (d (island-unnamed s g (world_of Z t) e))
+      go true e = let q = island-named S e in rw q (home-lives s S (named_is Z t s g e).slot_lt (λ x. d (q ∙ x)))

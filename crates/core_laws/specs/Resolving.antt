@@ -3,7 +3,7 @@ use Rattle.std.specs.Prelude.{◌≡◌, List, ℕ, ◌*◌}
 use Rattle.def_kinds.specs.declared.Sizes.{Sizes}
 use Rattle.def_state.specs.World.{Removal, World, Step, done}
 use Rattle.def_state.specs.Resolver.{counted}
-use Rattle.table_meaning.specs.Layout.{Tables, tables, rows-put, Extents, extents}
+use Rattle.table_meaning.specs.Layout.{Tables, tables, rows_put, Extents, extents}
 use Rattle.table_meaning.specs.Does.{RowsKept}
 use Rattle.core_laws.specs.Steps.{Steps}
 
@@ -16,7 +16,7 @@ counting r w = done (counted r w)
 
 -- of the tables, the rows alone changed, and of those only what is in use
 pub record RowsOnly (Z : Sizes) (t t' : List ℕ) : Type 0 where
-  pub same : tables Z t' ≡ rows-put (tables Z t) (tables Z t').rows
+  pub same : tables Z t' ≡ rows_put (tables Z t) (tables Z t').rows
   pub kept : RowsKept (3 * (extents (tables Z t)).islands) (tables Z t).rows (tables Z t').rows
 
 pub record Counted (Z : Sizes) (r : Removal) (t t' : List ℕ) : Type 0 where

@@ -1,13 +1,13 @@
 // Contact link and joint link on sound tables: who is a member, merge, then the link is appended.
 ghost use Rattle.std.specs.Prelude.{◌≡◌, ◌≢◌, ◌≤◌};
 ghost use Rattle.list_in_table.specs.Rules.{none};
-ghost use Rattle.def_state.specs.Links.{jointHome, jointRoom, link-contact, link-joint};
-ghost use Rattle.table_meaning.specs.Decode.{key_of, worldOf};
+ghost use Rattle.def_state.specs.Links.{joint_home, joint_room, link_contact, link_joint};
+ghost use Rattle.table_meaning.specs.Decode.{key_of, world_of};
 ghost use Rattle.table_meaning.specs.Sound.{Sound};
 ghost use Rattle.table_meaning.specs.Does.{Does};
 ghost use Rattle.core_laws.specs.Steps.{handle, Steps};
 ghost use Rattle.core_laws.specs.Lives.{Lives};
-ghost use Rattle.core_laws.specs.Linking.{joint-hold};
+ghost use Rattle.core_laws.specs.Linking.{joint_hold};
 ghost use Rattle.core_laws.specs.Places.{KeyRule};
 
 use def_kinds::{Answer, NONE, Sizes};
@@ -24,7 +24,7 @@ pub fn link_contact_on(
     g2: u32,
 ) -> Answer
     requires { Sound z t.old }
-    ensures { Does z (link-contact z e (handle s1 g1) (handle s2 g2)) t.old result t.new }
+    ensures { Does z (link_contact z e (handle s1 g1) (handle s2 g2)) t.old result t.new }
 {
     if e >= z.edges {
         return Answer::OverSize;
@@ -66,8 +66,8 @@ fn hold_joint(
     s2: u32,
     g2: u32,
 )
-    requires { Sound z t.old × KeyRule kind c × (jointHome (worldOf z t.old) (key_of kind a b c) ≡ none) × Lives z t.old i × (jointRoom z (worldOf z t.old) ≢ 0) × (z.joints ≤ none) }
-    ensures { Steps z (joint-hold i (key_of kind a b c) (handle s1 g1) (handle s2 g2)) t.old t.new }
+    requires { Sound z t.old × KeyRule kind c × (joint_home (world_of z t.old) (key_of kind a b c) ≡ none) × Lives z t.old i × (joint_room z (world_of z t.old) ≢ 0) × (z.joints ≤ none) }
+    ensures { Steps z (joint_hold i (key_of kind a b c) (handle s1 g1) (handle s2 g2)) t.old t.new }
 {
     core_joint::ready_place(t, z);
     core_joint::push_joint(t, z, i, kind, a, b, c, s1, g1, s2, g2);
@@ -87,7 +87,7 @@ pub fn link_joint_on(
     g2: u32,
 ) -> Answer
     requires { Sound z t.old × KeyRule kind c }
-    ensures { Does z (link-joint z (key_of kind a b c) (handle s1 g1) (handle s2 g2)) t.old result t.new }
+    ensures { Does z (link_joint z (key_of kind a b c) (handle s1 g1) (handle s2 g2)) t.old result t.new }
 {
     let p = core_joint::find_place(t, z, kind, a, b, c);
     if p != NONE {

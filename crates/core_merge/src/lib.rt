@@ -1,9 +1,9 @@
 // Merge of two islands on sound tables: the lesser one goes into the greater.
 ghost use Rattle.std.specs.Prelude.{◌≡◌, ◌≢◌, ◌+◌, ◌*◌, ◌<◌, length};
 ghost use Rattle.list_in_buffer.specs.Part.{Put};
-ghost use Rattle.def_state.specs.Links.{addCounts};
-ghost use Rattle.table_meaning.specs.Layout.{tables, total, rows_at, rowsLong};
-ghost use Rattle.core_laws.specs.Merging.{bothAsleep, rowsMixed, TwoLive, Absorbed, MergeDone};
+ghost use Rattle.def_state.specs.Links.{add_counts};
+ghost use Rattle.table_meaning.specs.Layout.{tables, total, rows_at, rows_span};
+ghost use Rattle.core_laws.specs.Merging.{both_asleep, rows_mixed, TwoLive, Absorbed, MergeDone};
 
 use def_kinds::Sizes;
 use table_meaning::{Table, word};
@@ -13,7 +13,7 @@ const MOST: u32 = 4294967295;
 
 // Counts add, and stop at MOST.
 pub fn add_counts(a: u32, b: u32) -> u32
-    ensures { result ≡ addCounts a b }
+    ensures { result ≡ add_counts a b }
 {
     if b > MOST - a {
         return MOST;
@@ -23,7 +23,7 @@ pub fn add_counts(a: u32, b: u32) -> u32
 
 // The sleeping word of two islands in one: asleep only if both sleep.
 fn both_asleep(a: u32, b: u32) -> u32
-    ensures { result ≡ bothAsleep a b }
+    ensures { result ≡ both_asleep a b }
 {
     if a != 1 {
         return 0;
@@ -37,7 +37,7 @@ fn both_asleep(a: u32, b: u32) -> u32
 // The row of big gets the count and the sleeping of both, and keeps its denial; the row of small is zeroed.
 fn mix_rows(t: &mut [u32], z: Sizes, big: u32, small: u32)
     requires { (length t.old ≡ total z) × (big < z.islands) × (small < z.islands) }
-    ensures { Put (rows_at z) (rowsLong z) t.old t.new (rowsMixed (tables z t.old).rows big small) }
+    ensures { Put (rows_at z) (rows_span z) t.old t.new (rows_mixed (tables z t.old).rows big small) }
 {
     let big_row = word::ROW * (big as usize);
     let small_row = word::ROW * (small as usize);

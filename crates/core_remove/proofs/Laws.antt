@@ -17,23 +17,23 @@ use Rattle.def_kinds.specs.declared.Sizes.{Sizes}
 use Rattle.def_kinds.specs.declared.Answer.TheVariants.{Done, Nothing}
 use Rattle.def_kinds.specs.declared.IslandAnswer.{IslandAnswer}
 use Rattle.def_state.specs.Plain.{more}
-use Rattle.def_state.specs.World.{Island, World, islandAt, named, islandOf, body-island}
+use Rattle.def_state.specs.World.{Island, World, island_at, named, island_of, body_island}
 use Rattle.def_state.specs.Membership.{left, remove}
 use Rattle.def_state.specs.Bodies.{island}
-use Rattle.table_meaning.specs.Layout.{Tables, tables, total, Extents, extents, membersAt, membersLong, rows_at, rowsLong, freedAt, freedLong, members-in, contacts-in, joints-in}
-use Rattle.table_meaning.specs.Decode.{worldOf}
+use Rattle.table_meaning.specs.Layout.{Tables, tables, total, Extents, extents, members_at, members_span, rows_at, rows_span, freed_at, freed_span, members_in, contacts_in, joints_in}
+use Rattle.table_meaning.specs.Decode.{world_of}
 use Rattle.table_meaning.specs.Sound.{Sound}
 use Rattle.table_meaning.proofs.Puts.{put-members, put-rows, put-freed}
 use Rattle.table_meaning.proofs.Chains.{taken}
 use Rattle.table_meaning.proofs.Frame.{larger-refl, larger-then}
 use Rattle.table_meaning.proofs.Unique.{islands-is}
-use Rattle.core_laws.specs.Steps.{handle, rowWords, leave, leave-last}
+use Rattle.core_laws.specs.Steps.{handle, row_words, leave, leave_last}
 use Rattle.core_laws.specs.Drops.{Cleared, JointsCleared}
 use Rattle.core_laws.specs.Leaves.{freeing, BodyLeft, Unpended, Removes}
 use Rattle.core_laws.proofs.Then.{refused, does-as}
-use Rattle.core_laws.proofs.Names.{island-at, home-is}
+use Rattle.core_laws.proofs.Names.{island-at, home_is}
 use Rattle.core_laws.proofs.Stays.{stays-extents}
-use Rattle.core_laws.proofs.Leave.{home-lt, left-some, left-last}
+use Rattle.core_laws.proofs.Leave.{home_lt, left-some, left-last}
 use Rattle.core_laws.proofs.Emptied.{removed-last, remove-no, remove-none, remove-some}
 
 -- ---- the only element of a list
@@ -46,38 +46,38 @@ only (x ∷ []) p s l h e =
 only (x ∷ y ∷ xs) p s l h e = absurd (omega arith)
 
 -- ---- a body that is in an island
-module _ {Z : Sizes} {t : List ℕ} (s i : ℕ) (S : Sound Z t) (sl : s < (extents (tables Z t)).slots) (hi : (members-in Z (tables Z t)).home s ≡ i) (d : i ≢ none) where
+module _ {Z : Sizes} {t : List ℕ} (s i : ℕ) (S : Sound Z t) (sl : s < (extents (tables Z t)).slots) (hi : (members_in Z (tables Z t)).home s ≡ i) (d : i ≢ none) where
   abbrev T : Tables
   T = tables Z t
 
   -- it is in no island once it was taken out of its list, whatever else changed
-  gone : (t' : List ℕ) → (tables Z t').members ≡ removed T.members 0 (4 * Z.slots) s → (members-in Z (tables Z t')).home s ≡ none
+  gone : (t' : List ℕ) → (tables Z t').members ≡ removed T.members 0 (4 * Z.slots) s → (members_in Z (tables Z t')).home s ≡ none
   gone t' e =
       ap (λ (x : List ℕ). (view x 0 (4 * Z.slots)).home s) e
-      ∙ (taken Z.slots (extents T).slots (extents T).islands T.members S.good.members-wf s sl (λ h. d (sym hi ∙ h))).home-e
+      ∙ (taken Z.slots (extents T).slots (extents T).islands T.members S.good.members_wf s sl (λ h. d (sym hi ∙ h))).home_e
 
-  place-lt : (members-in Z T).place s < (members-in Z T).count i
-  place-lt = rw hi at (held S.good.members-wf.rules s sl (λ h. d (sym hi ∙ h))).place-lt
+  place_lt : (members_in Z T).place s < (members_in Z T).count i
+  place_lt = rw hi at (held S.good.members_wf.rules s sl (λ h. d (sym hi ∙ h))).place_lt
 
   -- the island has a body
-  pub some-body : 0 < (members-in Z T).count i
-  some-body = let p = place-lt in omega arith
+  pub some-body : 0 < (members_in Z T).count i
+  some-body = let p = place_lt in omega arith
 
-  bodies-are : (islandAt (worldOf Z t) i).bodies ≡ list_of (members-in Z T) i
-  unfolding worldOf
-  bodies-are = ap (λ (a : Island). a.bodies) (island-at Z (extents T) T i (home-lt s i S sl hi d))
+  bodies-are : (island_at (world_of Z t) i).bodies ≡ list_of (members_in Z T) i
+  unfolding world_of
+  bodies-are = ap (λ (a : Island). a.bodies) (island-at Z (extents T) T i (home_lt s i S sl hi d))
 
-  as_many : length (islandAt (worldOf Z t) i).bodies ≡ (members-in Z T).count i
-  as_many = ap length bodies-are ∙ length-list S.good.members-wf.rules i (home-lt s i S sl hi d)
+  as_many : length (island_at (world_of Z t) i).bodies ≡ (members_in Z T).count i
+  as_many = ap length bodies-are ∙ length-list S.good.members_wf.rules i (home_lt s i S sl hi d)
 
-  alone : (members-in Z T).count i ≡ 1 → (islandAt (worldOf Z t) i).bodies ≡ s ∷ []
+  alone : (members_in Z T).count i ≡ 1 → (island_at (world_of Z t) i).bodies ≡ s ∷ []
   alone c =
-      only (islandAt (worldOf Z t) i).bodies ((members-in Z T).place s) s (as_many ∙ c) (let n = as_many in let p = place-lt in omega arith)
-      (ap (λ (xs : List ℕ). get_or xs ((members-in Z T).place s) 0) bodies-are ∙ list-of S.good.members-wf.rules i (home-lt s i S sl hi d) s sl hi)
+      only (island_at (world_of Z t) i).bodies ((members_in Z T).place s) s (as_many ∙ c) (let n = as_many in let p = place_lt in omega arith)
+      (ap (λ (xs : List ℕ). get_or xs ((members_in Z T).place s) 0) bodies-are ∙ list-of S.good.members_wf.rules i (home_lt s i S sl hi d) s sl hi)
 
   -- leave_some
-  pub others-stay : {t1 t2 : List ℕ} → 1 < (members-in Z T).count i → Put (membersAt Z) (membersLong Z) t t1 (removed T.members 0 (4 * Z.slots) s)
-      → Put (rows_at Z) (rowsLong Z) t1 t2 (set (tables Z t1).rows (3 * i) (more (get_or (tables Z t1).rows (3 * i) 0))) → BodyLeft Z (leave s i) s t t2
+  pub others-stay : {t1 t2 : List ℕ} → 1 < (members_in Z T).count i → Put (members_at Z) (members_span Z) t t1 (removed T.members 0 (4 * Z.slots) s)
+      → Put (rows_at Z) (rows_span Z) t1 t2 (set (tables Z t1).rows (3 * i) (more (get_or (tables Z t1).rows (3 * i) 0))) → BodyLeft Z (leave s i) s t t2
   others-stay {t1} {t2} c P Q =
       let e = put-rows Z t1 t2 _ (P.same_length ∙ S.long) Q in
       record {
@@ -87,10 +87,10 @@ module _ {Z : Sizes} {t : List ℕ} (s i : ℕ) (S : Sound Z t) (sl : s < (exten
       }
 
   -- leave_last
-  pub none_stays : {t1 t2 t3 : List ℕ} → (members-in Z T).count i ≡ 1 → (contacts-in Z T).count i ≡ 0 → (joints-in Z T).count i ≡ 0
-      → Put (membersAt Z) (membersLong Z) t t1 (removed T.members 0 (4 * Z.slots) s)
-      → Put (rows_at Z) (rowsLong Z) t1 t2 (writes (tables Z t1).rows (rowWords (3 * i) 0 0 0))
-      → Put (freedAt Z) (freedLong Z) t2 t3 (pushed (tables Z t2).freed 0 (4 * Z.islands) 0 i) → BodyLeft Z (leave-last i) s t t3
+  pub none_stays : {t1 t2 t3 : List ℕ} → (members_in Z T).count i ≡ 1 → (contacts_in Z T).count i ≡ 0 → (joints_in Z T).count i ≡ 0
+      → Put (members_at Z) (members_span Z) t t1 (removed T.members 0 (4 * Z.slots) s)
+      → Put (rows_at Z) (rows_span Z) t1 t2 (writes (tables Z t1).rows (row_words (3 * i) 0 0 0))
+      → Put (freed_at Z) (freed_span Z) t2 t3 (pushed (tables Z t2).freed 0 (4 * Z.islands) 0 i) → BodyLeft Z (leave_last i) s t t3
   none_stays {t1} {t2} {t3} c cc cj P Q R =
       let h1 : length t1 ≡ total Z = P.same_length ∙ S.long in
       let e2 = put-rows Z t1 t2 _ h1 Q in
@@ -112,9 +112,9 @@ module _ {Z : Sizes} {t t1 t2 : List ℕ} {i : ℕ} (A : Cleared Z i t t1) (B : 
   same-members = B.stays.members ∙ A.stays.members
 
   -- what leave_last asks
-  pub linkless : (s : ℕ) → s < (extents (tables Z t)).slots → (members-in Z (tables Z t)).home s ≡ i → i ≢ none → (members-in Z (tables Z t)).count i ≡ 1
-      → Sound Z t2 × (s < (extents (tables Z t2)).slots) × ((members-in Z (tables Z t2)).home s ≡ i) × (i ≢ none) × ((members-in Z (tables Z t2)).count i ≡ 1)
-      × ((contacts-in Z (tables Z t2)).count i ≡ 0) × ((joints-in Z (tables Z t2)).count i ≡ 0)
+  pub linkless : (s : ℕ) → s < (extents (tables Z t)).slots → (members_in Z (tables Z t)).home s ≡ i → i ≢ none → (members_in Z (tables Z t)).count i ≡ 1
+      → Sound Z t2 × (s < (extents (tables Z t2)).slots) × ((members_in Z (tables Z t2)).home s ≡ i) × (i ≢ none) × ((members_in Z (tables Z t2)).count i ≡ 1)
+      × ((contacts_in Z (tables Z t2)).count i ≡ 0) × ((joints_in Z (tables Z t2)).count i ≡ 0)
   linkless s sl hi d c = (
     B.steps.does.sound,
     (let e = ap (λ (X : Extents). X.slots) same-extents in omega arith),
@@ -125,7 +125,7 @@ module _ {Z : Sizes} {t t1 t2 : List ℕ} {i : ℕ} (A : Cleared Z i t t1) (B : 
     B.none,
   )
 
-  pub emptied : {t3 t4 : List ℕ} (s : ℕ) → i < (extents (tables Z t)).islands → BodyLeft Z (leave-last i) s t2 t3 → Unpended Z i t3 t4 → BodyLeft Z (freeing i) s t t4
+  pub emptied : {t3 t4 : List ℕ} (s : ℕ) → i < (extents (tables Z t)).islands → BodyLeft Z (leave_last i) s t2 t3 → Unpended Z i t3 t4 → BodyLeft Z (freeing i) s t t4
   unfolding freeing
   emptied s il C D =
       record {
@@ -135,48 +135,48 @@ module _ {Z : Sizes} {t t1 t2 : List ℕ} {i : ℕ} (A : Cleared Z i t t1) (B : 
               larger = larger-then A.steps.larger (larger-then B.steps.larger (larger-then C.steps.larger D.steps.larger));
             };
         gone = ap (λ (W : Tables). (view W.members 0 (4 * Z.slots)).home s) D.rest ∙ C.gone;
-        slots = ap (λ (X : Extents). X.slots) D.extents-same ∙ C.slots ∙ ap (λ (X : Extents). X.slots) same-extents;
+        slots = ap (λ (X : Extents). X.slots) D.extents_same ∙ C.slots ∙ ap (λ (X : Extents). X.slots) same-extents;
       }
 
 -- ---- remove_on
-freed-is : (w : World) (s g i : ℕ) → named w (handle s g) ≡ true → islandOf w s ≡ i → i ≢ none → (islandAt w i).bodies ≡ s ∷ [] → freeing i w ≡ remove (handle s g) w
+freed-is : (w : World) (s g i : ℕ) → named w (handle s g) ≡ true → island_of w s ≡ i → i ≢ none → (island_at w i).bodies ≡ s ∷ [] → freeing i w ≡ remove (handle s g) w
 unfolding remove left freeing
 freed-is w s g i n e d b = rw (n, e, ne_eqb i none d, b)
 
 module _ {Z : Sizes} {t : List ℕ} (s g : ℕ) (S : Sound Z t) where
-  pub not_named : named (worldOf Z t) (handle s g) ≡ false → Removes Z s g t Nothing t
+  pub not_named : named (world_of Z t) (handle s g) ≡ false → Removes Z s g t Nothing t
   not_named n =
       record {
-        does = refused (remove (handle s g)) Nothing S (remove-no (worldOf Z t) s g n);
+        does = refused (remove (handle s g)) Nothing S (remove-no (world_of Z t) s g n);
         larger = larger-refl (extents (tables Z t));
         slots = refl;
         gone = λ y. absurd (false≢true (sym n ∙ y));
       }
 
-  module _ (n : named (worldOf Z t) (handle s g) ≡ true) (sl : s < (extents (tables Z t)).slots) where
-    pub no-island : (members-in Z (tables Z t)).home s ≡ none → Removes Z s g t Nothing t
+  module _ (n : named (world_of Z t) (handle s g) ≡ true) (sl : s < (extents (tables Z t)).slots) where
+    pub no-island : (members_in Z (tables Z t)).home s ≡ none → Removes Z s g t Nothing t
     no-island e =
         record {
-          does = refused (remove (handle s g)) Nothing S (remove-none (worldOf Z t) s g n (home-is Z t s g S sl ∙ e));
+          does = refused (remove (handle s g)) Nothing S (remove-none (world_of Z t) s g n (home_is Z t s g S sl ∙ e));
           larger = larger-refl (extents (tables Z t));
           slots = refl;
           gone = λ y. e;
         }
 
-    module _ {t' : List ℕ} (i : ℕ) (hi : (members-in Z (tables Z t)).home s ≡ i) (d : i ≢ none) where
-      pub removed-only : (members-in Z (tables Z t)).count i ≡ 1 → BodyLeft Z (freeing i) s t t' → Removes Z s g t Done t'
+    module _ {t' : List ℕ} (i : ℕ) (hi : (members_in Z (tables Z t)).home s ≡ i) (d : i ≢ none) where
+      pub removed-only : (members_in Z (tables Z t)).count i ≡ 1 → BodyLeft Z (freeing i) s t t' → Removes Z s g t Done t'
       removed-only c L =
           record {
-            does = does-as (freeing i) (remove (handle s g)) (freed-is (worldOf Z t) s g i n (home-is Z t s g S sl ∙ hi) d (alone s i S sl hi d c)) L.steps.does;
+            does = does-as (freeing i) (remove (handle s g)) (freed-is (world_of Z t) s g i n (home_is Z t s g S sl ∙ hi) d (alone s i S sl hi d c)) L.steps.does;
             larger = L.steps.larger;
             slots = L.slots;
             gone = λ y. L.gone;
           }
 
-      pub removed-some : 1 < (members-in Z (tables Z t)).count i → BodyLeft Z (leave s i) s t t' → Removes Z s g t Done t'
+      pub removed-some : 1 < (members_in Z (tables Z t)).count i → BodyLeft Z (leave s i) s t t' → Removes Z s g t Done t'
       removed-some c L =
           record {
-            does = remove-some s g i n (home-is Z t s g S sl ∙ hi) d (rw (as_many s i S sl hi d) c) L.steps;
+            does = remove-some s g i n (home_is Z t s g S sl ∙ hi) d (rw (as_many s i S sl hi d) c) L.steps;
             larger = L.steps.larger;
             slots = L.slots;
             gone = λ y. L.gone;
@@ -185,9 +185,9 @@ module _ {Z : Sizes} {t : List ℕ} (s g : ℕ) (S : Sound Z t) where
 -- ---- island_on
 module _ (w : World) (s g : ℕ) where
   pub island-no : named w (handle s g) ≡ false → ◌≡◌ {A = IslandAnswer} (record { answer = Done; island = record { 0 = none } }) (island (handle s g) w)
-  unfolding island body-island
+  unfolding island body_island
   island-no n = rw n
 
-  pub island-yes : (i : ℕ) → named w (handle s g) ≡ true → islandOf w s ≡ i → ◌≡◌ {A = IslandAnswer} (record { answer = Done; island = record { 0 = i } }) (island (handle s g) w)
-  unfolding island body-island
+  pub island-yes : (i : ℕ) → named w (handle s g) ≡ true → island_of w s ≡ i → ◌≡◌ {A = IslandAnswer} (record { answer = Done; island = record { 0 = i } }) (island (handle s g) w)
+  unfolding island body_island
   island-yes i n e = rw (n, e)

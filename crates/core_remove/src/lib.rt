@@ -4,11 +4,11 @@ ghost use Rattle.list_in_table.specs.Rules.{none};
 ghost use Rattle.def_state.specs.Plain.{more};
 ghost use Rattle.def_state.specs.Bodies.{retire, island};
 ghost use Rattle.def_state.specs.Membership.{remove};
-ghost use Rattle.table_meaning.specs.Layout.{tables, extents, members-in, contacts-in, joints-in};
-ghost use Rattle.table_meaning.specs.Decode.{worldOf};
+ghost use Rattle.table_meaning.specs.Layout.{tables, extents, members_in, contacts_in, joints_in};
+ghost use Rattle.table_meaning.specs.Decode.{world_of};
 ghost use Rattle.table_meaning.specs.Sound.{Sound};
 ghost use Rattle.table_meaning.specs.Does.{Does};
-ghost use Rattle.core_laws.specs.Steps.{handle, leave, leave-last};
+ghost use Rattle.core_laws.specs.Steps.{handle, leave, leave_last};
 ghost use Rattle.core_laws.specs.Drops.{Dropped, Cleared, JointDropped, JointsCleared};
 ghost use Rattle.core_laws.specs.Leaves.{freeing, BodyLeft, Removes};
 
@@ -27,7 +27,7 @@ pub fn one_more(c: u32) -> u32
 
 // The last contact link of the island i goes.
 fn drop_contact(t: &mut [u32], z: Sizes, i: u32)
-    requires { Sound z t.old × (i < (extents (tables z t.old)).islands) × (0 < (contacts-in z (tables z t.old)).count i) }
+    requires { Sound z t.old × (i < (extents (tables z t.old)).islands) × (0 < (contacts_in z (tables z t.old)).count i) }
     ensures { Dropped z i t.old t.new }
 {
     let e = table_words::last(t, z, Table::Contacts, i);
@@ -59,7 +59,7 @@ pub fn drop_contacts(t: &mut [u32], z: Sizes, i: u32)
 
 // The last joint link of the island i goes, and its place of the key table is free.
 fn drop_joint(t: &mut [u32], z: Sizes, i: u32)
-    requires { Sound z t.old × (i < (extents (tables z t.old)).islands) × (0 < (joints-in z (tables z t.old)).count i) }
+    requires { Sound z t.old × (i < (extents (tables z t.old)).islands) × (0 < (joints_in z (tables z t.old)).count i) }
     ensures { JointDropped z i t.old t.new }
 {
     let p = table_words::last(t, z, Table::Joints, i);
@@ -94,7 +94,7 @@ pub fn drop_joints(t: &mut [u32], z: Sizes, i: u32)
 
 // The body in slot s leaves the island i, in which others stay.
 pub fn leave_some(t: &mut [u32], z: Sizes, s: u32, i: u32)
-    requires { Sound z t.old × (s < (extents (tables z t.old)).slots) × ((members-in z (tables z t.old)).home s ≡ i) × (i ≢ none) × (1 < (members-in z (tables z t.old)).count i) }
+    requires { Sound z t.old × (s < (extents (tables z t.old)).slots) × ((members_in z (tables z t.old)).home s ≡ i) × (i ≢ none) × (1 < (members_in z (tables z t.old)).count i) }
     ensures { BodyLeft z (leave s i) s t.old t.new }
 {
     table_words::remove(t, z, Table::Members, s);
@@ -105,8 +105,8 @@ pub fn leave_some(t: &mut [u32], z: Sizes, s: u32, i: u32)
 
 // The island i, with the body in slot s alone and no link, is freed.
 pub fn leave_last(t: &mut [u32], z: Sizes, s: u32, i: u32)
-    requires { Sound z t.old × (s < (extents (tables z t.old)).slots) × ((members-in z (tables z t.old)).home s ≡ i) × (i ≢ none) × ((members-in z (tables z t.old)).count i ≡ 1) × ((contacts-in z (tables z t.old)).count i ≡ 0) × ((joints-in z (tables z t.old)).count i ≡ 0) }
-    ensures { BodyLeft z (leave-last i) s t.old t.new }
+    requires { Sound z t.old × (s < (extents (tables z t.old)).slots) × ((members_in z (tables z t.old)).home s ≡ i) × (i ≢ none) × ((members_in z (tables z t.old)).count i ≡ 1) × ((contacts_in z (tables z t.old)).count i ≡ 0) × ((joints_in z (tables z t.old)).count i ≡ 0) }
+    ensures { BodyLeft z (leave_last i) s t.old t.new }
 {
     table_words::remove(t, z, Table::Members, s);
     table_words::set3(t, z, Table::Rows, word::ROW * (i as usize), 0, 0, 0);
@@ -115,7 +115,7 @@ pub fn leave_last(t: &mut [u32], z: Sizes, s: u32, i: u32)
 
 // The island i, whose only body is in slot s, drops its links and is freed.
 fn remove_only(t: &mut [u32], z: Sizes, s: u32, i: u32)
-    requires { Sound z t.old × (s < (extents (tables z t.old)).slots) × ((members-in z (tables z t.old)).home s ≡ i) × (i ≢ none) × ((members-in z (tables z t.old)).count i ≡ 1) }
+    requires { Sound z t.old × (s < (extents (tables z t.old)).slots) × ((members_in z (tables z t.old)).home s ≡ i) × (i ≢ none) × ((members_in z (tables z t.old)).count i ≡ 1) }
     ensures { BodyLeft z (freeing i) s t.old t.new }
 {
     drop_contacts(t, z, i);
@@ -161,7 +161,7 @@ pub fn retire_on(t: &mut [u32], z: Sizes, s: u32, g: u32) -> Answer
 // A body's island, on sound tables.
 pub fn island_on(t: &[u32], z: Sizes, s: u32, g: u32) -> IslandAnswer
     requires { Sound z t.now }
-    ensures { result ≡ island (handle s g) (worldOf z t.now) }
+    ensures { result ≡ island (handle s g) (world_of z t.now) }
 {
     if !core_body::is_named(t, z, s, g) {
         return IslandAnswer {

@@ -2,8 +2,8 @@
 ghost use Rattle.std.specs.Prelude.{◌≡◌, ◌≢◌, ℕ, ◌+◌, ◌*◌, ◌<◌, ◌≤◌, length};
 ghost use Rattle.list_in_buffer.specs.Part.{part, Put};
 ghost use Rattle.list_rename.specs.Renamed.{renamed, RenameReady};
-ghost use Rattle.def_state.specs.Links.{contact-edge-removed};
-ghost use Rattle.table_meaning.specs.Layout.{tables, total, table_at, tableLong, table_of, room};
+ghost use Rattle.def_state.specs.Links.{contact_edge_removed};
+ghost use Rattle.table_meaning.specs.Layout.{tables, total, table_at, table_span, table_of, room};
 ghost use Rattle.table_meaning.specs.Sound.{Sound};
 ghost use Rattle.table_meaning.specs.Does.{Does};
 ghost use Rattle.core_laws.specs.Renumbering.{Handing};
@@ -24,7 +24,7 @@ pub fn rename_in(t: &mut [u32], a: usize, k: usize, ends: usize, from: u32, to: 
 // The same in a chain table by its name.
 pub fn rename_at(t: &mut [u32], z: Sizes, k: Table, from: u32, to: u32)
     requires { (length t.old ≡ total z) × RenameReady (table_of k (tables z t.old)) 0 (4 * room z k) from to }
-    ensures { Put (table_at z k) (tableLong z k) t.old t.new (renamed (table_of k (tables z t.old)) 0 (4 * room z k) from to) }
+    ensures { Put (table_at z k) (table_span z k) t.old t.new (renamed (table_of k (tables z t.old)) 0 (4 * room z k) from to) }
 {
     let a = table_words::table_at(z, k);
     let n = table_words::table_long(z, k);
@@ -35,7 +35,7 @@ pub fn rename_at(t: &mut [u32], z: Sizes, k: Table, from: u32, to: u32)
 // The edge last, the last that is tracked, is linked, and takes the number removed, which is not: its place in the list, and its handles.
 fn hand_over(t: &mut [u32], z: Sizes, removed: u32, last: u32)
     requires { Handing z removed last t.old }
-    ensures { Does z (contact-edge-removed removed last) t.old Done t.new }
+    ensures { Does z (contact_edge_removed removed last) t.old Done t.new }
 {
     let s1 = table_words::get(t, z, Table::Touches, word::TOUCH * (last as usize));
     let g1 = table_words::get(
@@ -73,7 +73,7 @@ fn hand_over(t: &mut [u32], z: Sizes, removed: u32, last: u32)
 // contact_edge_removed, on sound tables.
 pub fn renumber_on(t: &mut [u32], z: Sizes, removed: u32, last: u32) -> Answer
     requires { Sound z t.old }
-    ensures { Does z (contact-edge-removed removed last) t.old result t.new }
+    ensures { Does z (contact_edge_removed removed last) t.old result t.new }
 {
     let tracked = table_words::get(t, z, Table::Head, word::TRACKED);
     if removed >= tracked {

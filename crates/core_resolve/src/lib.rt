@@ -1,6 +1,6 @@
 // The plain resolver: every entry of the journal, in order.
 ghost use Rattle.std.specs.Prelude.{◌≡◌};
-ghost use Rattle.def_state.specs.Resolver.{resolve-removals};
+ghost use Rattle.def_state.specs.Resolver.{resolve_removals};
 ghost use Rattle.table_meaning.specs.Sound.{Sound};
 ghost use Rattle.table_meaning.specs.Does.{Does};
 ghost use Rattle.core_laws.specs.Resolving.{entry_of, Counted};
@@ -29,7 +29,7 @@ pub fn count_entry(t: &mut [u32], z: Sizes, s1: u32, g1: u32, s2: u32, g2: u32)
 // The resolver, on sound tables.
 pub fn resolve_on(t: &mut [u32], z: Sizes) -> Answer
     requires { Sound z t.old }
-    ensures { Does z resolve-removals t.old result t.new }
+    ensures { Does z resolve_removals t.old result t.new }
 {
     let entries = table_words::head_word(t, z, word::JOURNAL_USED);
     if entries == 0 {

@@ -1,7 +1,7 @@
 // The sleep scan on sound tables: begin, and observe. What finish lists is core_finish; marking asleep and waking is core_sleep.
 ghost use Rattle.std.specs.Prelude.{◌<◌};
-ghost use Rattle.def_state.specs.Scan.{begin-sleep-scan, observe-body-for-sleep};
-ghost use Rattle.table_meaning.specs.Layout.{tables, scan-in};
+ghost use Rattle.def_state.specs.Scan.{begin_sleep_scan, observe_body_for_sleep};
+ghost use Rattle.table_meaning.specs.Layout.{tables, scan_in};
 ghost use Rattle.table_meaning.specs.Sound.{Sound};
 ghost use Rattle.table_meaning.specs.Does.{Does};
 ghost use Rattle.core_laws.specs.Steps.{Steps};
@@ -39,7 +39,7 @@ pub fn keep_scan(t: &mut [u32], z: Sizes, scan: Scan)
 
 // The island that was observed last is forgotten.
 fn forget_last(t: &mut [u32], z: Sizes)
-    requires { Sound z t.old × (0 < (scan-in z (tables z t.old)).count 0) }
+    requires { Sound z t.old × (0 < (scan_in z (tables z t.old)).count 0) }
     ensures { Forgot z t.old t.new }
 {
     let last = table_words::last(t, z, Table::Scan, 0);
@@ -63,7 +63,7 @@ pub fn clear_scan(t: &mut [u32], z: Sizes)
 // begin_sleep_scan, on sound tables.
 pub fn begin_on(t: &mut [u32], z: Sizes) -> Answer
     requires { Sound z t.old }
-    ensures { Does z begin-sleep-scan t.old result t.new }
+    ensures { Does z begin_sleep_scan t.old result t.new }
 {
     clear_scan(t, z);
     let scan = scan_of(t, z);
@@ -99,7 +99,7 @@ fn observe_again(t: &mut [u32], z: Sizes, i: u32, eligible: bool)
 // observe_body_for_sleep, on sound tables.
 pub fn observe_on(t: &mut [u32], z: Sizes, i: u32, eligible: bool) -> Answer
     requires { Sound z t.old }
-    ensures { Does z (observe-body-for-sleep i eligible) t.old result t.new }
+    ensures { Does z (observe_body_for_sleep i eligible) t.old result t.new }
 {
     if !core_live::is_live(t, z, i) {
         return Answer::NoIsland;

@@ -1,10 +1,10 @@
 // An island is marked asleep, or wakes: on sound tables.
-ghost use Rattle.def_state.specs.Scan.{mark-island-sleeping, wake-island};
+ghost use Rattle.def_state.specs.Scan.{mark_island_sleeping, wake_island};
 ghost use Rattle.table_meaning.specs.Sound.{Sound};
 ghost use Rattle.table_meaning.specs.Does.{Does};
 ghost use Rattle.core_laws.specs.Steps.{Steps};
 ghost use Rattle.core_laws.specs.Lives.{Lives};
-ghost use Rattle.core_sleep.specs.Resting.{rest-as};
+ghost use Rattle.core_sleep.specs.Resting.{rest_as};
 
 use def_kinds::{Answer, Sizes};
 use table_meaning::{Table, word};
@@ -12,7 +12,7 @@ use table_meaning::{Table, word};
 // The live island i sleeps, or not.
 fn rest(t: &mut [u32], z: Sizes, i: u32, asleep: bool)
     requires { Sound z t.old × Lives z t.old i }
-    ensures { Steps z (rest-as i asleep) t.old t.new }
+    ensures { Steps z (rest_as i asleep) t.old t.new }
 {
     let word = core_body::bit(asleep);
     table_words::set(
@@ -27,7 +27,7 @@ fn rest(t: &mut [u32], z: Sizes, i: u32, asleep: bool)
 // mark_island_sleeping, on sound tables.
 pub fn sleep_on(t: &mut [u32], z: Sizes, i: u32) -> Answer
     requires { Sound z t.old }
-    ensures { Does z (mark-island-sleeping i) t.old result t.new }
+    ensures { Does z (mark_island_sleeping i) t.old result t.new }
 {
     if !core_live::is_live(t, z, i) {
         return Answer::NoIsland;
@@ -40,7 +40,7 @@ pub fn sleep_on(t: &mut [u32], z: Sizes, i: u32) -> Answer
 // An island wakes, on sound tables.
 pub fn wake_on(t: &mut [u32], z: Sizes, i: u32) -> Answer
     requires { Sound z t.old }
-    ensures { Does z (wake-island i) t.old result t.new }
+    ensures { Does z (wake_island i) t.old result t.new }
 {
     if !core_live::is_live(t, z, i) {
         return Answer::NoIsland;

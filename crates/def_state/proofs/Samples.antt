@@ -7,15 +7,15 @@ use lib.ListN.{length, get_or}
 use Rattle.def_kinds.specs.Number.{number, rig}
 use Rattle.def_kinds.specs.declared.Answer.{Answer}
 use Rattle.def_state.specs.Plain.{has, place_of, more}
-use Rattle.def_state.specs.World.{Handle, Island, World, emptyWorld, named, islandBelow, islandOf, body-island, live}
-use Rattle.def_state.specs.Fields.{island-set}
+use Rattle.def_state.specs.World.{Handle, Island, World, empty_world, named, island_below, island_of, body_island, live}
+use Rattle.def_state.specs.Fields.{island_set}
 use Rattle.def_state.specs.Bodies.{grown, placed, put, flags, vacate, retire}
-use Rattle.def_state.specs.Membership.{clear-pending-split-of, newNumber, alloc-island, mayJoin, joined, ensure, free-island, left, remove}
-use Rattle.def_state.specs.Links.{edgesOf, contactBelow, contactHome, survivor, addCounts, absorb, merge-islands, target, merged, contact-pushed, track, link-contact, sameHandle, journal-removal, journalRefuses, contact-removed, unlink-contact, renumbered, contact-edge-removed}
-use Rattle.def_state.specs.Resolver.{counted, countAll, resolve-removals}
-use Rattle.def_state.specs.Connected.{lower, lowers, label, tally, components, weight, most, first, keepLabel}
-use Rattle.def_state.specs.Split.{node_of, contactEnds, jointEnds, linksOf, labelsOf, leads, newNumbers, newIslands, goal, linkGoal, contactsLeave, jointsLeave, body-moved, bodiesLeave, denial, checked, parted, split, split-island-now}
-use Rattle.def_state.specs.Scan.{begin-sleep-scan}
+use Rattle.def_state.specs.Membership.{clear_pending_split_of, new_number, alloc_island, may_join, joined, ensure, free_island, left, remove}
+use Rattle.def_state.specs.Links.{edges_of, contact_below, contact_home, survivor, add_counts, absorb, merge_islands, target, merged, contact_pushed, track, link_contact, same_handle, journal_removal, journal_refuses, contact_removed, unlink_contact, renumbered, contact_edge_removed}
+use Rattle.def_state.specs.Resolver.{counted, count_all, resolve_removals}
+use Rattle.def_state.specs.Connected.{lower, lowers, label, tally, components, weight, most, first, keep_label}
+use Rattle.def_state.specs.Split.{node_of, contact_ends, joint_ends, links_of, labels_of, leads, new_numbers, new_islands, goal, link_goal, contacts_leave, joints_leave, body_moved, bodies_leave, denial, checked, parted, split, split_island_now}
+use Rattle.def_state.specs.Scan.{begin_sleep_scan}
 use Rattle.def_state.specs.Calls.{Call, Reset, Put, Flags, Ensure, Contact, Uncontact, Renumber, Resolve, Split, Begin, perform, answers, run}
 
 -- an island as it is seen: its bodies, its contact links' edges, its count and its denial
@@ -40,19 +40,19 @@ abbrev freed : Seen
 freed = isle [] [] 0 0
 
 abbrev seen : Island → Seen
-seen a = isle a.bodies (edgesOf a) a.constraint-remove-count a.split-denied-until
+seen a = isle a.bodies (edges_of a) a.constraint_remove_count a.split_denied_until
 
 -- the calls `before`, then the calls `last`, whose answers are shown
 abbrev shown : List Call → List Call → Row
 shown before last =
-    let w = run rig before emptyWorld in
+    let w = run rig before empty_world in
     let v = run rig last w in
     record {
       answered = map number (answers rig last w);
       islands = map seen v.islands;
-      free = v.free-islands;
+      free = v.free_islands;
       tracked = v.tracked;
-      journal = length v.removal-journal;
+      journal = length v.removal_journal;
     }
 
 abbrev row : List ℕ → List Seen → List ℕ → ℕ → ℕ → Row
@@ -87,8 +87,8 @@ E = Uncontact 0 ∷ Resolve ∷ []
 abbrev to_c : List Call
 to_c = start ++ (A ++ (B ++ C))
 
-abbrev toE : List Call
-toE = to_c ++ (D ++ E)
+abbrev to_e : List Call
+to_e = to_c ++ (D ++ E)
 
 abbrev begins : ℕ → List Call
 begins zero = []
@@ -106,9 +106,9 @@ table =
     ∷ shown to_c D
     ∷ shown (to_c ++ D) (Uncontact 0 ∷ [])
     ∷ shown (to_c ++ D) E
-    ∷ shown (toE ++ begins 5) (Split 0 ∷ [])
-    ∷ shown toE (Renumber 0 2 ∷ [])
-    ∷ shown toE (Renumber 0 5 ∷ Renumber 3 2 ∷ Renumber 1 2 ∷ [])
+    ∷ shown (to_e ++ begins 5) (Split 0 ∷ [])
+    ∷ shown to_e (Renumber 0 2 ∷ [])
+    ∷ shown to_e (Renumber 0 5 ∷ Renumber 3 2 ∷ Renumber 1 2 ∷ [])
     ∷ shown start (Contact 16383 (body 7) (body 8) ∷ Contact 16384 (body 0) (body 1) ∷ [])
     ∷ shown (Reset ∷ Put (body 0) false true false ∷ Put (body 5) true true false ∷ Ensure (body 0) ∷ [])
     (Contact 0 (body 0) (body 5) ∷ Flags (body 5) false true false ∷ Ensure (body 5) ∷ [])
@@ -130,5 +130,5 @@ expected =
     ∷ []
 
 samples : table ≡ expected
-unfolding table expected has place_of more named islandBelow islandOf body-island live island-set clear-pending-split-of grown placed put flags vacate retire newNumber alloc-island mayJoin joined ensure free-island left remove contactBelow contactHome survivor addCounts absorb merge-islands target merged contact-pushed track link-contact sameHandle journal-removal journalRefuses contact-removed unlink-contact renumbered contact-edge-removed counted countAll resolve-removals lower lowers label tally components weight most first keepLabel node_of contactEnds jointEnds linksOf labelsOf leads newNumbers newIslands goal linkGoal contactsLeave jointsLeave body-moved bodiesLeave denial checked parted split split-island-now begin-sleep-scan perform answers run
+unfolding table expected has place_of more named island_below island_of body_island live island_set clear_pending_split_of grown placed put flags vacate retire new_number alloc_island may_join joined ensure free_island left remove contact_below contact_home survivor add_counts absorb merge_islands target merged contact_pushed track link_contact same_handle journal_removal journal_refuses contact_removed unlink_contact renumbered contact_edge_removed counted count_all resolve_removals lower lowers label tally components weight most first keep_label node_of contact_ends joint_ends links_of labels_of leads new_numbers new_islands goal link_goal contacts_leave joints_leave body_moved bodies_leave denial checked parted split split_island_now begin_sleep_scan perform answers run
 samples = refl

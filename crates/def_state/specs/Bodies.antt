@@ -7,20 +7,20 @@ use Rattle.def_kinds.specs.declared.Answer.TheVariants.{Done, Nothing, OverSize,
 use Rattle.def_kinds.specs.declared.Island.{Island as IslandNumber}
 use Rattle.def_kinds.specs.declared.IslandAnswer.{IslandAnswer}
 use Rattle.def_state.specs.Plain.{top}
-use Rattle.def_state.specs.World.{Handle, Body, noBody, World, Step, done, gives, body_of, named, body-island}
-use Rattle.def_state.specs.Fields.{bodies-set}
+use Rattle.def_state.specs.World.{Handle, Body, absent_body, World, Step, done, gives, body_of, named, body_island}
+use Rattle.def_state.specs.Fields.{bodies_set}
 use Rattle.def_state.specs.Membership.{remove}
 
 -- at least k slots, those taken in vacant
 unfoldable pub grown : ℕ → World → World
-grown k w = bodies-set w (w.bodies ++ replicate (k - length w.bodies) noBody)
+grown k w = bodies_set w (w.bodies ++ replicate (k - length w.bodies) absent_body)
 
 -- the body of handle h with these flags, where the slot held b before
 abbrev pub filled : Handle → Bool → Bool → Bool → Body → Body
 filled h f e z b = record { generation = h.generation; lowest = b.lowest; fixed = f; enabled = e; sleeping = z }
 
 unfoldable pub placed : Handle → Bool → Bool → Bool → World → World
-placed h f e z w = bodies-set w (set (grown (h.slot + 1) w).bodies h.slot (filled h f e z (body_of w h.slot)))
+placed h f e z w = bodies_set w (set (grown (h.slot + 1) w).bodies h.slot (filled h f e z (body_of w h.slot)))
 
 -- put: a slot over its size, a slot taken, a generation not allowed; else the body stands in its slot, a member of nothing
 unfoldable pub put : Sizes → Handle → Bool → Bool → Bool → World → Step
@@ -34,14 +34,14 @@ put Z h f e z w =
 -- changing flags touches no membership
 unfoldable pub flags : Handle → Bool → Bool → Bool → World → Step
 flags h f e z w =
-    pick (named w h) (done (bodies-set w (set w.bodies h.slot (filled h f e z (body_of w h.slot))))) (gives Nothing w)
+    pick (named w h) (done (bodies_set w (set w.bodies h.slot (filled h f e z (body_of w h.slot))))) (gives Nothing w)
 
 -- a slot that holds nothing, with the lowest generation that may come next
 abbrev pub vacated : ℕ → Body
 vacated g = record { generation = top; lowest = g + 1; fixed = false; enabled = false; sleeping = false }
 
 unfoldable pub vacate : Handle → World → World
-vacate h w = bodies-set w (set w.bodies h.slot (vacated h.generation))
+vacate h w = bodies_set w (set w.bodies h.slot (vacated h.generation))
 
 -- retire: out of its island, if it is in one; then the slot is free
 unfoldable pub retire : Handle → World → Step
@@ -49,4 +49,4 @@ retire h w = pick (named w h) (done (vacate h (remove h w).after)) (gives Nothin
 
 -- a body's island: always Done, with its number, or top for none
 unfoldable pub island : Handle → World → IslandAnswer
-island h w = record { answer = Done; island = record { 0 = body-island w h } }
+island h w = record { answer = Done; island = record { 0 = body_island w h } }

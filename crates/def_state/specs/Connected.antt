@@ -56,5 +56,5 @@ first f zero = 0
 first f (suc n) = pick (ltb (most f n) (f n)) n (first f n)
 
 -- the label of the largest component; equal, the one with the earliest place
-unfoldable pub keepLabel : List ℕ → ℕ
-keepLabel L = get_or L (first (weight L) (length L)) 0
+unfoldable pub keep_label : List ℕ → ℕ
+keep_label L = get_or L (first (weight L) (length L)) 0

@@ -6,172 +6,172 @@ use Rattle.def_state.specs.World.{Body, ContactLink, JointLink, Island, Removal,
 -- ---- of the state
 
 module _ (w : World) where
-  abbrev pub bodies-set : List Body → World
-  bodies-set x =
+  abbrev pub bodies_set : List Body → World
+  bodies_set x =
       record {
         bodies = x;
         islands = w.islands;
-        free-islands = w.free-islands;
+        free_islands = w.free_islands;
         tracked = w.tracked;
-        joint-places = w.joint-places;
-        free-places = w.free-places;
-        removal-journal = w.removal-journal;
-        split-island = w.split-island;
-        sleep-scan-stamp = w.sleep-scan-stamp;
+        joint_places = w.joint_places;
+        free_places = w.free_places;
+        removal_journal = w.removal_journal;
+        split_island = w.split_island;
+        sleep_scan_stamp = w.sleep_scan_stamp;
         scanning = w.scanning;
-        sleep-scan-touched = w.sleep-scan-touched;
+        sleep_scan_touched = w.sleep_scan_touched;
       }
 
-  abbrev pub islands-set : List Island → World
-  islands-set x =
+  abbrev pub islands_set : List Island → World
+  islands_set x =
       record {
         bodies = w.bodies;
         islands = x;
-        free-islands = w.free-islands;
+        free_islands = w.free_islands;
         tracked = w.tracked;
-        joint-places = w.joint-places;
-        free-places = w.free-places;
-        removal-journal = w.removal-journal;
-        split-island = w.split-island;
-        sleep-scan-stamp = w.sleep-scan-stamp;
+        joint_places = w.joint_places;
+        free_places = w.free_places;
+        removal_journal = w.removal_journal;
+        split_island = w.split_island;
+        sleep_scan_stamp = w.sleep_scan_stamp;
         scanning = w.scanning;
-        sleep-scan-touched = w.sleep-scan-touched;
+        sleep_scan_touched = w.sleep_scan_touched;
       }
 
-  abbrev pub free-set : List ℕ → World
-  free-set x =
+  abbrev pub free_set : List ℕ → World
+  free_set x =
       record {
         bodies = w.bodies;
         islands = w.islands;
-        free-islands = x;
+        free_islands = x;
         tracked = w.tracked;
-        joint-places = w.joint-places;
-        free-places = w.free-places;
-        removal-journal = w.removal-journal;
-        split-island = w.split-island;
-        sleep-scan-stamp = w.sleep-scan-stamp;
+        joint_places = w.joint_places;
+        free_places = w.free_places;
+        removal_journal = w.removal_journal;
+        split_island = w.split_island;
+        sleep_scan_stamp = w.sleep_scan_stamp;
         scanning = w.scanning;
-        sleep-scan-touched = w.sleep-scan-touched;
+        sleep_scan_touched = w.sleep_scan_touched;
       }
 
-  abbrev pub tracked-set : ℕ → World
-  tracked-set x =
+  abbrev pub tracked_set : ℕ → World
+  tracked_set x =
       record {
         bodies = w.bodies;
         islands = w.islands;
-        free-islands = w.free-islands;
+        free_islands = w.free_islands;
         tracked = x;
-        joint-places = w.joint-places;
-        free-places = w.free-places;
-        removal-journal = w.removal-journal;
-        split-island = w.split-island;
-        sleep-scan-stamp = w.sleep-scan-stamp;
+        joint_places = w.joint_places;
+        free_places = w.free_places;
+        removal_journal = w.removal_journal;
+        split_island = w.split_island;
+        sleep_scan_stamp = w.sleep_scan_stamp;
         scanning = w.scanning;
-        sleep-scan-touched = w.sleep-scan-touched;
+        sleep_scan_touched = w.sleep_scan_touched;
       }
 
   -- how many places of the key table, and which are free
-  abbrev pub places-set : ℕ → List ℕ → World
-  places-set x y =
+  abbrev pub places_set : ℕ → List ℕ → World
+  places_set x y =
       record {
         bodies = w.bodies;
         islands = w.islands;
-        free-islands = w.free-islands;
+        free_islands = w.free_islands;
         tracked = w.tracked;
-        joint-places = x;
-        free-places = y;
-        removal-journal = w.removal-journal;
-        split-island = w.split-island;
-        sleep-scan-stamp = w.sleep-scan-stamp;
+        joint_places = x;
+        free_places = y;
+        removal_journal = w.removal_journal;
+        split_island = w.split_island;
+        sleep_scan_stamp = w.sleep_scan_stamp;
         scanning = w.scanning;
-        sleep-scan-touched = w.sleep-scan-touched;
+        sleep_scan_touched = w.sleep_scan_touched;
       }
 
-  abbrev pub journal-set : List Removal → World
-  journal-set x =
+  abbrev pub journal_set : List Removal → World
+  journal_set x =
       record {
         bodies = w.bodies;
         islands = w.islands;
-        free-islands = w.free-islands;
+        free_islands = w.free_islands;
         tracked = w.tracked;
-        joint-places = w.joint-places;
-        free-places = w.free-places;
-        removal-journal = x;
-        split-island = w.split-island;
-        sleep-scan-stamp = w.sleep-scan-stamp;
+        joint_places = w.joint_places;
+        free_places = w.free_places;
+        removal_journal = x;
+        split_island = w.split_island;
+        sleep_scan_stamp = w.sleep_scan_stamp;
         scanning = w.scanning;
-        sleep-scan-touched = w.sleep-scan-touched;
+        sleep_scan_touched = w.sleep_scan_touched;
       }
 
-  abbrev pub split-set : Option ℕ → World
-  split-set x =
+  abbrev pub split_set : Option ℕ → World
+  split_set x =
       record {
         bodies = w.bodies;
         islands = w.islands;
-        free-islands = w.free-islands;
+        free_islands = w.free_islands;
         tracked = w.tracked;
-        joint-places = w.joint-places;
-        free-places = w.free-places;
-        removal-journal = w.removal-journal;
-        split-island = x;
-        sleep-scan-stamp = w.sleep-scan-stamp;
+        joint_places = w.joint_places;
+        free_places = w.free_places;
+        removal_journal = w.removal_journal;
+        split_island = x;
+        sleep_scan_stamp = w.sleep_scan_stamp;
         scanning = w.scanning;
-        sleep-scan-touched = w.sleep-scan-touched;
+        sleep_scan_touched = w.sleep_scan_touched;
       }
 
   -- the scan: its stamp, whether it is open, and what was observed
-  abbrev pub scan-set : ℕ → Bool → List Observed → World
-  scan-set x y z =
+  abbrev pub scan_set : ℕ → Bool → List Observed → World
+  scan_set x y z =
       record {
         bodies = w.bodies;
         islands = w.islands;
-        free-islands = w.free-islands;
+        free_islands = w.free_islands;
         tracked = w.tracked;
-        joint-places = w.joint-places;
-        free-places = w.free-places;
-        removal-journal = w.removal-journal;
-        split-island = w.split-island;
-        sleep-scan-stamp = x;
+        joint_places = w.joint_places;
+        free_places = w.free_places;
+        removal_journal = w.removal_journal;
+        split_island = w.split_island;
+        sleep_scan_stamp = x;
         scanning = y;
-        sleep-scan-touched = z;
+        sleep_scan_touched = z;
       }
 
 -- the island at number i
-unfoldable pub island-set : World → ℕ → Island → World
-island-set w i a = islands-set w (set w.islands i a)
+unfoldable pub island_set : World → ℕ → Island → World
+island_set w i a = islands_set w (set w.islands i a)
 
 -- ---- of an island
 
-abbrev pub members-set : Island → List ℕ → Island
-members-set a bs =
+abbrev pub members_set : Island → List ℕ → Island
+members_set a bs =
     record {
       bodies = bs;
-      contact-links = a.contact-links;
-      joint-links = a.joint-links;
-      constraint-remove-count = a.constraint-remove-count;
-      split-denied-until = a.split-denied-until;
+      contact_links = a.contact_links;
+      joint_links = a.joint_links;
+      constraint_remove_count = a.constraint_remove_count;
+      split_denied_until = a.split_denied_until;
       sleeping = a.sleeping;
     }
 
-abbrev pub contacts-set : Island → List ContactLink → Island
-contacts-set a ls =
+abbrev pub contacts_set : Island → List ContactLink → Island
+contacts_set a ls =
     record {
       bodies = a.bodies;
-      contact-links = ls;
-      joint-links = a.joint-links;
-      constraint-remove-count = a.constraint-remove-count;
-      split-denied-until = a.split-denied-until;
+      contact_links = ls;
+      joint_links = a.joint_links;
+      constraint_remove_count = a.constraint_remove_count;
+      split_denied_until = a.split_denied_until;
       sleeping = a.sleeping;
     }
 
-abbrev pub joints-set : Island → List JointLink → Island
-joints-set a ls =
+abbrev pub joints_set : Island → List JointLink → Island
+joints_set a ls =
     record {
       bodies = a.bodies;
-      contact-links = a.contact-links;
-      joint-links = ls;
-      constraint-remove-count = a.constraint-remove-count;
-      split-denied-until = a.split-denied-until;
+      contact_links = a.contact_links;
+      joint_links = ls;
+      constraint_remove_count = a.constraint_remove_count;
+      split_denied_until = a.split_denied_until;
       sleeping = a.sleeping;
     }
 
@@ -179,20 +179,20 @@ abbrev pub count_set : Island → ℕ → Island
 count_set a c =
     record {
       bodies = a.bodies;
-      contact-links = a.contact-links;
-      joint-links = a.joint-links;
-      constraint-remove-count = c;
-      split-denied-until = a.split-denied-until;
+      contact_links = a.contact_links;
+      joint_links = a.joint_links;
+      constraint_remove_count = c;
+      split_denied_until = a.split_denied_until;
       sleeping = a.sleeping;
     }
 
-abbrev pub sleeping-set : Island → Bool → Island
-sleeping-set a z =
+abbrev pub sleeping_set : Island → Bool → Island
+sleeping_set a z =
     record {
       bodies = a.bodies;
-      contact-links = a.contact-links;
-      joint-links = a.joint-links;
-      constraint-remove-count = a.constraint-remove-count;
-      split-denied-until = a.split-denied-until;
+      contact_links = a.contact_links;
+      joint_links = a.joint_links;
+      constraint_remove_count = a.constraint_remove_count;
+      split_denied_until = a.split_denied_until;
       sleeping = z;
     }

@@ -3,175 +3,175 @@ use Rattle.std.specs.Prelude.{Bool, true, false, ◌&&◌, ◌||◌, not, List, 
 use Rattle.def_kinds.specs.Choice.{pick}
 use Rattle.def_kinds.specs.declared.Sizes.{Sizes}
 use Rattle.def_kinds.specs.declared.Answer.TheVariants.{Nothing, OverSize, StillLinked, JointsFull, JournalFull}
-use Rattle.def_state.specs.Plain.{top, empty, has, place_of, drop_last, last_of, swapRemove}
-use Rattle.def_state.specs.World.{Handle, Key, impulse, chain, ContactLink, noContact, JointLink, noJoint, Island, noIsland, Removal, World, Step, done, gives, islandAt, body-island}
-use Rattle.def_state.specs.Fields.{free-set, tracked-set, places-set, journal-set, island-set, contacts-set, joints-set}
-use Rattle.def_state.specs.Membership.{clear-pending-split-of}
+use Rattle.def_state.specs.Plain.{top, empty, has, place_of, drop_last, last_of, swap_remove}
+use Rattle.def_state.specs.World.{Handle, Key, impulse, chain, ContactLink, absent_contact, JointLink, absent_joint, Island, absent_island, Removal, World, Step, done, gives, island_at, body_island}
+use Rattle.def_state.specs.Fields.{free_set, tracked_set, places_set, journal_set, island_set, contacts_set, joints_set}
+use Rattle.def_state.specs.Membership.{clear_pending_split_of}
 
 -- ---- what is linked, and where
 
-abbrev pub edgesOf : Island → List ℕ
-edgesOf a = map (λ (l : ContactLink). l.edge_id) a.contact-links
+abbrev pub edges_of : Island → List ℕ
+edges_of a = map (λ (l : ContactLink). l.edge_id) a.contact_links
 
-abbrev pub sameKey : Key → Key → Bool
-sameKey (impulse i g) (impulse j h) = eqb i j && eqb g h
-sameKey (impulse i g) (chain u v o) = false
-sameKey (chain u v o) (impulse j h) = false
-sameKey (chain u v o) (chain x y p) = eqb u x && (eqb v y && eqb o p)
+abbrev pub same_key : Key → Key → Bool
+same_key (impulse i g) (impulse j h) = eqb i j && eqb g h
+same_key (impulse i g) (chain u v o) = false
+same_key (chain u v o) (impulse j h) = false
+same_key (chain u v o) (chain x y p) = eqb u x && (eqb v y && eqb o p)
 
 -- the place in its list of the link with this key; the list's length where there is none
-unfoldable pub keyPlace : List JointLink → Key → ℕ
-keyPlace [] k = 0
-keyPlace (l ∷ ls) k = pick (sameKey l.key k) 0 (suc (keyPlace ls k))
+unfoldable pub key_place : List JointLink → Key → ℕ
+key_place [] k = 0
+key_place (l ∷ ls) k = pick (same_key l.key k) 0 (suc (key_place ls k))
 
 -- the island below k whose contact links have the edge, or top; the same for a joint's key (the Rust looks them up in contact_link_locs and joint_link_locs)
-unfoldable pub contactBelow : List Island → ℕ → ℕ → ℕ
-contactBelow is e zero = top
-contactBelow is e (suc k) = pick (has (edgesOf (get_or is k noIsland)) e) k (contactBelow is e k)
+unfoldable pub contact_below : List Island → ℕ → ℕ → ℕ
+contact_below is e zero = top
+contact_below is e (suc k) = pick (has (edges_of (get_or is k absent_island)) e) k (contact_below is e k)
 
-unfoldable pub jointBelow : List Island → Key → ℕ → ℕ
-jointBelow is q zero = top
-jointBelow is q (suc k) =
-    pick (ltb (keyPlace (get_or is k noIsland).joint-links q) (length (get_or is k noIsland).joint-links)) k (jointBelow is q k)
+unfoldable pub joint_below : List Island → Key → ℕ → ℕ
+joint_below is q zero = top
+joint_below is q (suc k) =
+    pick (ltb (key_place (get_or is k absent_island).joint_links q) (length (get_or is k absent_island).joint_links)) k (joint_below is q k)
 
-unfoldable pub contactHome : World → ℕ → ℕ
-contactHome w e = contactBelow w.islands e (length w.islands)
+unfoldable pub contact_home : World → ℕ → ℕ
+contact_home w e = contact_below w.islands e (length w.islands)
 
-unfoldable pub jointHome : World → Key → ℕ
-jointHome w q = jointBelow w.islands q (length w.islands)
+unfoldable pub joint_home : World → Key → ℕ
+joint_home w q = joint_below w.islands q (length w.islands)
 
 -- ---- merge_islands
 
 -- more bodies survives; equal, the first
 unfoldable pub survivor : World → ℕ → ℕ → ℕ
-survivor w a b = pick (leb (length (islandAt w b).bodies) (length (islandAt w a).bodies)) a b
+survivor w a b = pick (leb (length (island_at w b).bodies) (length (island_at w a).bodies)) a b
 
 -- counts add, and stop at the top
-unfoldable pub addCounts : ℕ → ℕ → ℕ
-addCounts x y = pick (ltb top (x + y)) top (x + y)
+unfoldable pub add_counts : ℕ → ℕ → ℕ
+add_counts x y = pick (ltb top (x + y)) top (x + y)
 
 abbrev pub absorbed : Island → Island → Island
 absorbed big small =
     record {
       bodies = big.bodies ++ small.bodies;
-      contact-links = big.contact-links ++ small.contact-links;
-      joint-links = big.joint-links ++ small.joint-links;
-      constraint-remove-count = addCounts big.constraint-remove-count small.constraint-remove-count;
-      split-denied-until = big.split-denied-until;
+      contact_links = big.contact_links ++ small.contact_links;
+      joint_links = big.joint_links ++ small.joint_links;
+      constraint_remove_count = add_counts big.constraint_remove_count small.constraint_remove_count;
+      split_denied_until = big.split_denied_until;
       sleeping = big.sleeping && small.sleeping;
     }
 
 -- small is freed (free_island), its links being the other's now
 unfoldable pub absorb : ℕ → ℕ → World → World
 absorb big small w =
-    let v = island-set (island-set w big (absorbed (islandAt w big) (islandAt w small))) small noIsland in
-    clear-pending-split-of small (free-set v (w.free-islands ++ (small ∷ [])))
+    let v = island_set (island_set w big (absorbed (island_at w big) (island_at w small))) small absent_island in
+    clear_pending_split_of small (free_set v (w.free_islands ++ (small ∷ [])))
 
 -- merge_islands: nothing where a and b are one island
-unfoldable pub merge-islands : ℕ → ℕ → World → World
-merge-islands a b w = pick (eqb a b) w (pick (eqb (survivor w a b) a) (absorb a b w) (absorb b a w))
+unfoldable pub merge_islands : ℕ → ℕ → World → World
+merge_islands a b w = pick (eqb a b) w (pick (eqb (survivor w a b) a) (absorb a b w) (absorb b a w))
 
 -- the island that is to hold a link of these ends (top where neither is a member), and the state with them merged
 unfoldable pub target : World → Handle → Handle → ℕ
 target w h1 h2 =
-    let a = body-island w h1 in
-    let b = body-island w h2 in
+    let a = body_island w h1 in
+    let b = body_island w h2 in
     pick (eqb a top) b (pick (eqb b top) a (survivor w a b))
 
 unfoldable pub merged : Handle → Handle → World → World
 merged h1 h2 w =
-    let a = body-island w h1 in
-    let b = body-island w h2 in
-    pick (eqb a top || eqb b top) w (merge-islands a b w)
+    let a = body_island w h1 in
+    let b = body_island w h2 in
+    pick (eqb a top || eqb b top) w (merge_islands a b w)
 
 -- ---- link_contact
 
-unfoldable pub contact-pushed : ℕ → ContactLink → World → World
-contact-pushed i l w = island-set w i (contacts-set (islandAt w i) ((islandAt w i).contact-links ++ (l ∷ [])))
+unfoldable pub contact_pushed : ℕ → ContactLink → World → World
+contact_pushed i l w = island_set w i (contacts_set (island_at w i) ((island_at w i).contact_links ++ (l ∷ [])))
 
 -- the tracked length is at least k
 unfoldable pub track : ℕ → World → World
-track k w = tracked-set w (pick (ltb w.tracked k) k w.tracked)
+track k w = tracked_set w (pick (ltb w.tracked k) k w.tracked)
 
 -- link_contact: the length first, even where the answer is then 1; the link is appended after the merge
-unfoldable pub link-contact : Sizes → ℕ → Handle → Handle → World → Step
-link-contact Z e h1 h2 w =
+unfoldable pub link_contact : Sizes → ℕ → Handle → Handle → World → Step
+link_contact Z e h1 h2 w =
     let v = track (e + 1) w in
     pick (leb Z.edges e) (gives OverSize w)
-    (pick (not (eqb (contactHome v e) top)) (gives Nothing v)
+    (pick (not (eqb (contact_home v e) top)) (gives Nothing v)
     (pick (eqb (target v h1 h2) top) (gives Nothing v)
-    (done (contact-pushed (target v h1 h2) (record { edge_id = e; body1 = h1; body2 = h2 }) (merged h1 h2 v)))))
+    (done (contact_pushed (target v h1 h2) (record { edge_id = e; body1 = h1; body2 = h2 }) (merged h1 h2 v)))))
 
 -- ---- link_joint
 
-unfoldable pub joint-pushed : ℕ → JointLink → World → World
-joint-pushed i l w = island-set w i (joints-set (islandAt w i) ((islandAt w i).joint-links ++ (l ∷ [])))
+unfoldable pub joint_pushed : ℕ → JointLink → World → World
+joint_pushed i l w = island_set w i (joints_set (island_at w i) ((island_at w i).joint_links ++ (l ∷ [])))
 
 -- a place of the key table: the last freed, or the next unused
-unfoldable pub newPlace : World → ℕ
-newPlace w = pick (empty w.free-places) w.joint-places (last_of top w.free-places)
+unfoldable pub new_place : World → ℕ
+new_place w = pick (empty w.free_places) w.joint_places (last_of top w.free_places)
 
-unfoldable pub take-place : World → World
-take-place w = pick (empty w.free-places) (places-set w (w.joint-places + 1) []) (places-set w w.joint-places (drop_last w.free-places))
+unfoldable pub take_place : World → World
+take_place w = pick (empty w.free_places) (places_set w (w.joint_places + 1) []) (places_set w w.joint_places (drop_last w.free_places))
 
 -- how many joint links fit yet
-unfoldable pub jointRoom : Sizes → World → ℕ
-jointRoom Z w = Z.joints - w.joint-places + length w.free-places
+unfoldable pub joint_room : Sizes → World → ℕ
+joint_room Z w = Z.joints - w.joint_places + length w.free_places
 
 -- link_joint: alike, without the length
-unfoldable pub link-joint : Sizes → Key → Handle → Handle → World → Step
-link-joint Z q h1 h2 w =
-    pick (not (eqb (jointHome w q) top)) (gives Nothing w)
+unfoldable pub link_joint : Sizes → Key → Handle → Handle → World → Step
+link_joint Z q h1 h2 w =
+    pick (not (eqb (joint_home w q) top)) (gives Nothing w)
     (pick (eqb (target w h1 h2) top) (gives Nothing w)
-    (pick (eqb (jointRoom Z w) 0) (gives JointsFull w)
-    (done (joint-pushed (target w h1 h2) (record { place = newPlace w; key = q; body1 = h1; body2 = h2 }) (take-place (merged h1 h2 w))))))
+    (pick (eqb (joint_room Z w) 0) (gives JointsFull w)
+    (done (joint_pushed (target w h1 h2) (record { place = new_place w; key = q; body1 = h1; body2 = h2 }) (take_place (merged h1 h2 w))))))
 
 -- ---- journal_removal
 
-unfoldable pub sameHandle : Handle → Handle → Bool
-sameHandle h k = eqb h.slot k.slot && eqb h.generation k.generation
+unfoldable pub same_handle : Handle → Handle → Bool
+same_handle h k = eqb h.slot k.slot && eqb h.generation k.generation
 
 -- journal_removal: a link from a body to itself never carried connectivity
-unfoldable pub journal-removal : Handle → Handle → World → World
-journal-removal h1 h2 w = pick (sameHandle h1 h2) w (journal-set w (w.removal-journal ++ (record { body1 = h1; body2 = h2 } ∷ [])))
+unfoldable pub journal_removal : Handle → Handle → World → World
+journal_removal h1 h2 w = pick (same_handle h1 h2) w (journal_set w (w.removal_journal ++ (record { body1 = h1; body2 = h2 } ∷ [])))
 
 -- an entry is needed and none fits
-unfoldable pub journalRefuses : Sizes → Handle → Handle → World → Bool
-journalRefuses Z h1 h2 w = not (sameHandle h1 h2) && leb Z.journal (length w.removal-journal)
+unfoldable pub journal_refuses : Sizes → Handle → Handle → World → Bool
+journal_refuses Z h1 h2 w = not (same_handle h1 h2) && leb Z.journal (length w.removal_journal)
 
 -- ---- unlink_contact
 
-unfoldable pub contact-removed : ℕ → ℕ → World → World
-contact-removed i p w = island-set w i (contacts-set (islandAt w i) (swapRemove noContact (islandAt w i).contact-links p))
+unfoldable pub contact_removed : ℕ → ℕ → World → World
+contact_removed i p w = island_set w i (contacts_set (island_at w i) (swap_remove absent_contact (island_at w i).contact_links p))
 
 -- unlink_contact: swap removal, then a journal entry
-unfoldable pub unlink-contact : Sizes → ℕ → World → Step
-unlink-contact Z e w =
-    let i = contactHome w e in
-    let p = place_of (edgesOf (islandAt w i)) e in
-    let l = get_or (islandAt w i).contact-links p noContact in
+unfoldable pub unlink_contact : Sizes → ℕ → World → Step
+unlink_contact Z e w =
+    let i = contact_home w e in
+    let p = place_of (edges_of (island_at w i)) e in
+    let l = get_or (island_at w i).contact_links p absent_contact in
     pick (eqb i top) (gives Nothing w)
-    (pick (journalRefuses Z l.body1 l.body2 w) (gives JournalFull w)
-    (done (journal-removal l.body1 l.body2 (contact-removed i p w))))
+    (pick (journal_refuses Z l.body1 l.body2 w) (gives JournalFull w)
+    (done (journal_removal l.body1 l.body2 (contact_removed i p w))))
 
 -- ---- unlink_joint
 
 -- the link at place p of the island's list goes, and its place of the key table is free
-unfoldable pub joint-removed : ℕ → ℕ → World → World
-joint-removed i p w =
-    let l = get_or (islandAt w i).joint-links p noJoint in
-    let v = places-set w w.joint-places (w.free-places ++ (l.place ∷ [])) in
-    island-set v i (joints-set (islandAt w i) (swapRemove noJoint (islandAt w i).joint-links p))
+unfoldable pub joint_removed : ℕ → ℕ → World → World
+joint_removed i p w =
+    let l = get_or (island_at w i).joint_links p absent_joint in
+    let v = places_set w w.joint_places (w.free_places ++ (l.place ∷ [])) in
+    island_set v i (joints_set (island_at w i) (swap_remove absent_joint (island_at w i).joint_links p))
 
 -- unlink_joint: the same by key
-unfoldable pub unlink-joint : Sizes → Key → World → Step
-unlink-joint Z q w =
-    let i = jointHome w q in
-    let p = keyPlace (islandAt w i).joint-links q in
-    let l = get_or (islandAt w i).joint-links p noJoint in
+unfoldable pub unlink_joint : Sizes → Key → World → Step
+unlink_joint Z q w =
+    let i = joint_home w q in
+    let p = key_place (island_at w i).joint_links q in
+    let l = get_or (island_at w i).joint_links p absent_joint in
     pick (eqb i top) (gives Nothing w)
-    (pick (journalRefuses Z l.body1 l.body2 w) (gives JournalFull w)
-    (done (journal-removal l.body1 l.body2 (joint-removed i p w))))
+    (pick (journal_refuses Z l.body1 l.body2 w) (gives JournalFull w)
+    (done (journal_removal l.body1 l.body2 (joint_removed i p w))))
 
 -- ---- contact_edge_removed
 
@@ -180,14 +180,14 @@ renamed e l = record { edge_id = e; body1 = l.body1; body2 = l.body2 }
 
 unfoldable pub renumbered : ℕ → ℕ → World → World
 renumbered removed last w =
-    let i = contactHome w last in
-    let a = islandAt w i in
-    let p = place_of (edgesOf a) last in
-    pick (eqb i top) w (island-set w i (contacts-set a (set a.contact-links p (renamed removed (get_or a.contact-links p noContact)))))
+    let i = contact_home w last in
+    let a = island_at w i in
+    let p = place_of (edges_of a) last in
+    pick (eqb i top) w (island_set w i (contacts_set a (set a.contact_links p (renamed removed (get_or a.contact_links p absent_contact)))))
 
 -- contact_edge_removed: the edge `last` takes the number `removed`
-unfoldable pub contact-edge-removed : ℕ → ℕ → World → Step
-contact-edge-removed removed last w =
+unfoldable pub contact_edge_removed : ℕ → ℕ → World → Step
+contact_edge_removed removed last w =
     pick (leb w.tracked removed) (gives Nothing w)
-    (pick (not (eqb (contactHome w removed) top)) (gives StillLinked w)
-    (pick (eqb w.tracked (last + 1)) (done (tracked-set (renumbered removed last w) last)) (gives Nothing w)))
+    (pick (not (eqb (contact_home w removed) top)) (gives StillLinked w)
+    (pick (eqb w.tracked (last + 1)) (done (tracked_set (renumbered removed last w) last)) (gives Nothing w)))

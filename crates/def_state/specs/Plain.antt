@@ -29,8 +29,8 @@ abbrev pub last_of : {A : Type 0} → A → List A → A
 last_of d xs = get_or xs (length xs - 1) d
 
 -- Vec::swap_remove: the last takes the place p
-abbrev pub swapRemove : {A : Type 0} → A → List A → ℕ → List A
-swapRemove d xs p = take (length xs - 1) (set xs p (get_or xs (length xs - 1) d))
+abbrev pub swap_remove : {A : Type 0} → A → List A → ℕ → List A
+swap_remove d xs p = take (length xs - 1) (set xs p (get_or xs (length xs - 1) d))
 
 -- one more; counts stop at the top
 unfoldable pub more : ℕ → ℕ

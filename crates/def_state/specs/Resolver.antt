@@ -3,20 +3,20 @@ use Rattle.std.specs.Prelude.{Bool, true, false, ◌&&◌, not, List, [], ◌∷
 use Rattle.def_kinds.specs.Choice.{pick}
 use Rattle.def_kinds.specs.declared.Answer.TheVariants.{Nothing}
 use Rattle.def_state.specs.Plain.{top, empty, more}
-use Rattle.def_state.specs.World.{Island, Removal, World, Step, done, gives, islandAt, body-island}
-use Rattle.def_state.specs.Fields.{journal-set, island-set, count_set}
+use Rattle.def_state.specs.World.{Island, Removal, World, Step, done, gives, island_at, body_island}
+use Rattle.def_state.specs.Fields.{journal_set, island_set, count_set}
 
 -- one entry
 unfoldable pub counted : Removal → World → World
 counted r w =
-    let i = body-island w r.body1 in
-    pick (not (eqb i top) && eqb i (body-island w r.body2))
-    (island-set w i (count_set (islandAt w i) (more (islandAt w i).constraint-remove-count)))
+    let i = body_island w r.body1 in
+    pick (not (eqb i top) && eqb i (body_island w r.body2))
+    (island_set w i (count_set (island_at w i) (more (island_at w i).constraint_remove_count)))
     w
 
-unfoldable pub countAll : List Removal → World → World
-countAll [] w = w
-countAll (r ∷ rs) w = countAll rs (counted r w)
+unfoldable pub count_all : List Removal → World → World
+count_all [] w = w
+count_all (r ∷ rs) w = count_all rs (counted r w)
 
-unfoldable pub resolve-removals : World → Step
-resolve-removals w = pick (empty w.removal-journal) (gives Nothing w) (done (journal-set (countAll w.removal-journal w) []))
+unfoldable pub resolve_removals : World → Step
+resolve_removals w = pick (empty w.removal_journal) (gives Nothing w) (done (journal_set (count_all w.removal_journal w) []))

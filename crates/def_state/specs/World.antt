@@ -40,10 +40,10 @@ pub record JointLink : Type 0 where
 -- PersistentIsland. Its bodies are their slots: a listed body is live, so its generation is its slot's. It is live exactly if it has a body
 pub record Island : Type 0 where
   pub bodies : List ℕ
-  pub contact-links : List ContactLink
-  pub joint-links : List JointLink
-  pub constraint-remove-count : ℕ
-  pub split-denied-until : ℕ
+  pub contact_links : List ContactLink
+  pub joint_links : List JointLink
+  pub constraint_remove_count : ℕ
+  pub split_denied_until : ℕ
   pub sleeping : Bool
 
 pub record Removal : Type 0 where
@@ -61,49 +61,49 @@ pub record World : Type 0 where
   -- by number, up to the next never used one
   pub islands : List Island
   -- a stack, its top last
-  pub free-islands : List ℕ
+  pub free_islands : List ℕ
   -- the length of contact_link_locs
   pub tracked : ℕ
   -- how many places of the key table were ever used, and the stack of those that are free
-  pub joint-places : ℕ
-  pub free-places : List ℕ
-  pub removal-journal : List Removal
-  pub split-island : Option ℕ
-  pub sleep-scan-stamp : ℕ
+  pub joint_places : ℕ
+  pub free_places : List ℕ
+  pub removal_journal : List Removal
+  pub split_island : Option ℕ
+  pub sleep_scan_stamp : ℕ
   pub scanning : Bool
-  pub sleep-scan-touched : List Observed
+  pub sleep_scan_touched : List Observed
 
 abbrev pub absent : Handle
 absent = record { slot = top; generation = top }
 
-abbrev pub noBody : Body
-noBody = record { generation = top; lowest = 0; fixed = false; enabled = false; sleeping = false }
+abbrev pub absent_body : Body
+absent_body = record { generation = top; lowest = 0; fixed = false; enabled = false; sleeping = false }
 
 -- PersistentIsland::default
-abbrev pub noIsland : Island
-noIsland = record { bodies = []; contact-links = []; joint-links = []; constraint-remove-count = 0; split-denied-until = 0; sleeping = false }
+abbrev pub absent_island : Island
+absent_island = record { bodies = []; contact_links = []; joint_links = []; constraint_remove_count = 0; split_denied_until = 0; sleeping = false }
 
-abbrev pub noContact : ContactLink
-noContact = record { edge_id = top; body1 = absent; body2 = absent }
+abbrev pub absent_contact : ContactLink
+absent_contact = record { edge_id = top; body1 = absent; body2 = absent }
 
-abbrev pub noJoint : JointLink
-noJoint = record { place = top; key = impulse 0 0; body1 = absent; body2 = absent }
+abbrev pub absent_joint : JointLink
+absent_joint = record { place = top; key = impulse 0 0; body1 = absent; body2 = absent }
 
 -- after reset
-abbrev pub emptyWorld : World
-emptyWorld =
+abbrev pub empty_world : World
+empty_world =
     record {
       bodies = [];
       islands = [];
-      free-islands = [];
+      free_islands = [];
       tracked = 0;
-      joint-places = 0;
-      free-places = [];
-      removal-journal = [];
-      split-island = none;
-      sleep-scan-stamp = 0;
+      joint_places = 0;
+      free_places = [];
+      removal_journal = [];
+      split_island = none;
+      sleep_scan_stamp = 0;
       scanning = false;
-      sleep-scan-touched = [];
+      sleep_scan_touched = [];
     }
 
 -- what a call answers, and the state after it
@@ -121,27 +121,27 @@ gives r w = record { answer = r; after = w }
 
 -- the body in slot s; a slot that was never put holds none
 abbrev pub body_of : World → ℕ → Body
-body_of w s = get_or w.bodies s noBody
+body_of w s = get_or w.bodies s absent_body
 
-abbrev pub islandAt : World → ℕ → Island
-islandAt w i = get_or w.islands i noIsland
+abbrev pub island_at : World → ℕ → Island
+island_at w i = get_or w.islands i absent_island
 
 -- the handle names a live body (RigidBodySet::get)
 unfoldable pub named : World → Handle → Bool
 named w h = pick (eqb h.generation top) false (eqb (body_of w h.slot).generation h.generation)
 
 -- an island below k that lists the slot s, or top
-unfoldable pub islandBelow : List Island → ℕ → ℕ → ℕ
-islandBelow is s zero = top
-islandBelow is s (suc k) = pick (has (get_or is k noIsland).bodies s) k (islandBelow is s k)
+unfoldable pub island_below : List Island → ℕ → ℕ → ℕ
+island_below is s zero = top
+island_below is s (suc k) = pick (has (get_or is k absent_island).bodies s) k (island_below is s k)
 
 -- the island that lists the slot s, or top (the Rust's ids.island_id, INVALID_ISLAND for none)
-unfoldable pub islandOf : World → ℕ → ℕ
-islandOf w s = islandBelow w.islands s (length w.islands)
+unfoldable pub island_of : World → ℕ → ℕ
+island_of w s = island_below w.islands s (length w.islands)
 
 -- body_island: top for none
-unfoldable pub body-island : World → Handle → ℕ
-body-island w h = pick (named w h) (islandOf w h.slot) top
+unfoldable pub body_island : World → Handle → ℕ
+body_island w h = pick (named w h) (island_of w h.slot) top
 
 unfoldable pub live : World → ℕ → Bool
-live w i = not (eqb (length (islandAt w i).bodies) 0)
+live w i = not (eqb (length (island_at w i).bodies) 0)

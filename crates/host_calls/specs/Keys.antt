@@ -4,6 +4,6 @@ use Rattle.def_kinds.specs.declared.JointKey.{JointKey}
 use Rattle.def_kinds.specs.declared.JointKey.TheVariants.{Impulse, Chain}
 use Rattle.def_state.specs.World.{Key, impulse, chain}
 
-abbrev pub keyIs : JointKey → Key
-keyIs (Impulse i g) = impulse i g
-keyIs (Chain m o) = chain (m / 4294967296) (m % 4294967296) o
+abbrev pub key_is : JointKey → Key
+key_is (Impulse i g) = impulse i g
+key_is (Chain m o) = chain (m / 4294967296) (m % 4294967296) o

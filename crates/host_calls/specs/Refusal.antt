@@ -4,14 +4,14 @@ use Rattle.def_kinds.specs.declared.IslandAnswer.{IslandAnswer}
 use Rattle.def_kinds.specs.declared.BidAnswer.{BidAnswer}
 use Rattle.def_kinds.specs.declared.Answer.TheVariants.{Done, BadTables}
 use Rattle.def_state.specs.World.{World}
-use Rattle.def_state.specs.Split.{split-allowed}
+use Rattle.def_state.specs.Split.{split_allowed}
 
-abbrev pub refusedIsland : IslandAnswer
-refusedIsland = record { answer = BadTables; island = record { 0 = 4294967295 } }
+abbrev pub refused_island : IslandAnswer
+refused_island = record { answer = BadTables; island = record { 0 = 4294967295 } }
 
 -- always Done, with yes or no
-unfoldable pub mayBid : ℕ → World → BidAnswer
-mayBid i w = record { answer = Done; yes = split-allowed i w }
+unfoldable pub may_bid : ℕ → World → BidAnswer
+may_bid i w = record { answer = Done; yes = split_allowed i w }
 
-abbrev pub refusedBid : BidAnswer
-refusedBid = record { answer = BadTables; yes = false }
+abbrev pub refused_bid : BidAnswer
+refused_bid = record { answer = BadTables; yes = false }

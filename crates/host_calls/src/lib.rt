@@ -1,18 +1,18 @@
 // The host calls, at the rig's sizes and in the named types: each audits the buffer first, and none has a `requires`. At any sizes: sized.rt.
 ghost use Rattle.std.specs.Prelude.{◌≡◌, ◌≤◌, length, ◌/◌, ◌%◌};
 ghost use Rattle.def_kinds.specs.Number.{rig};
-ghost use Rattle.def_state.specs.Bodies.{put as putStep, flags as flagsStep, retire as retireStep, island as islandOf};
+ghost use Rattle.def_state.specs.Bodies.{put as putStep, flags as flagsStep, retire as retireStep, island as island_of};
 ghost use Rattle.def_state.specs.Membership.{ensure as ensureStep, remove as removeStep};
-ghost use Rattle.def_state.specs.Links.{link-contact, unlink-contact, contact-edge-removed, link-joint, unlink-joint};
-ghost use Rattle.def_state.specs.Resolver.{resolve-removals};
-ghost use Rattle.def_state.specs.Chain.{refresh-multibody-chain};
-ghost use Rattle.core_laws.specs.Chaining.{handlesFrom};
+ghost use Rattle.def_state.specs.Links.{link_contact, unlink_contact, contact_edge_removed, link_joint, unlink_joint};
+ghost use Rattle.def_state.specs.Resolver.{resolve_removals};
+ghost use Rattle.def_state.specs.Chain.{refresh_multibody_chain};
+ghost use Rattle.core_laws.specs.Chaining.{handles_from};
 ghost use Rattle.table_meaning.specs.Does.{Called, Asks, Reset};
-ghost use Rattle.def_state.specs.Split.{split-island-now, schedule-split, run-pending-split};
-ghost use Rattle.host_calls.specs.Refusal.{refusedIsland, mayBid, refusedBid};
-ghost use Rattle.host_calls.specs.Keys.{keyIs};
+ghost use Rattle.def_state.specs.Split.{split_island_now, schedule_split, run_pending_split};
+ghost use Rattle.host_calls.specs.Refusal.{refused_island, may_bid, refused_bid};
+ghost use Rattle.host_calls.specs.Keys.{key_is};
 ghost use Rattle.core_laws.specs.Steps.{handle};
-ghost use Rattle.def_state.specs.Scan.{begin-sleep-scan, observe-body-for-sleep, mark-island-sleeping, wake-island};
+ghost use Rattle.def_state.specs.Scan.{begin_sleep_scan, observe_body_for_sleep, mark_island_sleeping, wake_island};
 ghost use Rattle.core_finish.specs.Listing.{Finish};
 
 use def_kinds::{
@@ -76,7 +76,7 @@ pub fn retire(t: &mut [u32], h: Handle) -> Answer
 
 // A body's island: its number, or 4294967295 for none and with any other answer than Done.
 pub fn island(t: &[u32], h: Handle) -> IslandAnswer
-    ensures { Asks rig (islandOf (handle h.slot.0 h.generation)) refusedIsland t.now result }
+    ensures { Asks rig (island_of (handle h.slot.0 h.generation)) refused_island t.now result }
 {
     let slot = h.slot;
     let s = slot.0;
@@ -86,7 +86,7 @@ pub fn island(t: &[u32], h: Handle) -> IslandAnswer
 
 // Links a touching contact between two bodies, merging their islands if they differ.
 pub fn contact(t: &mut [u32], edge: Edge, first: Handle, second: Handle) -> Answer
-    ensures { Called rig (link-contact rig edge.0 (handle first.slot.0 first.generation) (handle second.slot.0 second.generation)) t.old result t.new }
+    ensures { Called rig (link_contact rig edge.0 (handle first.slot.0 first.generation) (handle second.slot.0 second.generation)) t.old result t.new }
 {
     let e = edge.0;
     let slot1 = first.slot;
@@ -100,7 +100,7 @@ pub fn contact(t: &mut [u32], edge: Edge, first: Handle, second: Handle) -> Answ
 
 // Unlinks the contact of an edge number, and journals its removal.
 pub fn uncontact(t: &mut [u32], edge: Edge) -> Answer
-    ensures { Called rig (unlink-contact rig edge.0) t.old result t.new }
+    ensures { Called rig (unlink_contact rig edge.0) t.old result t.new }
 {
     let e = edge.0;
     sized::uncontact(t, Sizes::RIG, e)
@@ -108,7 +108,7 @@ pub fn uncontact(t: &mut [u32], edge: Edge) -> Answer
 
 // The edge `removed` is gone, and the edge `last` has taken its number.
 pub fn renumber(t: &mut [u32], removed: Edge, last: Edge) -> Answer
-    ensures { Called rig (contact-edge-removed removed.0 last.0) t.old result t.new }
+    ensures { Called rig (contact_edge_removed removed.0 last.0) t.old result t.new }
 {
     let r = removed.0;
     let l = last.0;
@@ -117,7 +117,7 @@ pub fn renumber(t: &mut [u32], removed: Edge, last: Edge) -> Answer
 
 // Links a joint between two bodies, merging their islands if they differ.
 pub fn joint(t: &mut [u32], key: JointKey, first: Handle, second: Handle) -> Answer
-    ensures { Called rig (link-joint rig (keyIs key) (handle first.slot.0 first.generation) (handle second.slot.0 second.generation)) t.old result t.new }
+    ensures { Called rig (link_joint rig (key_is key) (handle first.slot.0 first.generation) (handle second.slot.0 second.generation)) t.old result t.new }
 {
     let slot1 = first.slot;
     let s1 = slot1.0;
@@ -130,35 +130,35 @@ pub fn joint(t: &mut [u32], key: JointKey, first: Handle, second: Handle) -> Ans
 
 // Unlinks the joint of a key, and journals its removal.
 pub fn unjoint(t: &mut [u32], key: JointKey) -> Answer
-    ensures { Called rig (unlink-joint rig (keyIs key)) t.old result t.new }
+    ensures { Called rig (unlink_joint rig (key_is key)) t.old result t.new }
 {
     sized::unjoint(t, Sizes::RIG, key)
 }
 
 // Unlinks the multibody's chain and links a new one over the bodies of the list, two words a handle.
 pub fn chain(t: &mut [u32], multibody: u64, list: &[u32]) -> Answer
-    ensures { Called rig (refresh-multibody-chain rig (multibody / 4294967296) (multibody % 4294967296) (handlesFrom list.now 0 (length list.now / 2))) t.old result t.new }
+    ensures { Called rig (refresh_multibody_chain rig (multibody / 4294967296) (multibody % 4294967296) (handles_from list.now 0 (length list.now / 2))) t.old result t.new }
 {
     sized::chain(t, Sizes::RIG, multibody, list)
 }
 
 // Counts the journal's entries, and empties it.
 pub fn resolve(t: &mut [u32]) -> Answer
-    ensures { Called rig resolve-removals t.old result t.new }
+    ensures { Called rig resolve_removals t.old result t.new }
 {
     sized::resolve(t, Sizes::RIG)
 }
 
 // Opens a sleep scan, anew where one is open.
 pub fn begin(t: &mut [u32]) -> Answer
-    ensures { Called rig begin-sleep-scan t.old result t.new }
+    ensures { Called rig begin_sleep_scan t.old result t.new }
 {
     sized::begin(t, Sizes::RIG)
 }
 
 // A body of the island was looked at, and may sleep or not.
 pub fn observe(t: &mut [u32], island: Island, eligible: bool) -> Answer
-    ensures { Called rig (observe-body-for-sleep island.0 eligible) t.old result t.new }
+    ensures { Called rig (observe_body_for_sleep island.0 eligible) t.old result t.new }
 {
     let i = island.0;
     sized::observe(t, Sizes::RIG, i, eligible)
@@ -173,7 +173,7 @@ pub fn finish(t: &mut [u32], out: &mut [u32]) -> ListAnswer
 
 // The island sleeps; a pending split of it is cleared.
 pub fn sleep(t: &mut [u32], island: Island) -> Answer
-    ensures { Called rig (mark-island-sleeping island.0) t.old result t.new }
+    ensures { Called rig (mark_island_sleeping island.0) t.old result t.new }
 {
     let i = island.0;
     sized::sleep(t, Sizes::RIG, i)
@@ -181,7 +181,7 @@ pub fn sleep(t: &mut [u32], island: Island) -> Answer
 
 // The island wakes.
 pub fn wake(t: &mut [u32], island: Island) -> Answer
-    ensures { Called rig (wake-island island.0) t.old result t.new }
+    ensures { Called rig (wake_island island.0) t.old result t.new }
 {
     let i = island.0;
     sized::wake(t, Sizes::RIG, i)
@@ -189,7 +189,7 @@ pub fn wake(t: &mut [u32], island: Island) -> Answer
 
 // Splits a live island into its components.
 pub fn split(t: &mut [u32], island: Island) -> Answer
-    ensures { Called rig (split-island-now island.0) t.old result t.new }
+    ensures { Called rig (split_island_now island.0) t.old result t.new }
 {
     let i = island.0;
     sized::split(t, Sizes::RIG, i)
@@ -197,7 +197,7 @@ pub fn split(t: &mut [u32], island: Island) -> Answer
 
 // The island waits for its split; any number.
 pub fn schedule(t: &mut [u32], island: Island) -> Answer
-    ensures { Called rig (schedule-split island.0) t.old result t.new }
+    ensures { Called rig (schedule_split island.0) t.old result t.new }
 {
     let i = island.0;
     sized::schedule(t, Sizes::RIG, i)
@@ -205,14 +205,14 @@ pub fn schedule(t: &mut [u32], island: Island) -> Answer
 
 // Runs the waiting split.
 pub fn run(t: &mut [u32]) -> Answer
-    ensures { Called rig run-pending-split t.old result t.new }
+    ensures { Called rig run_pending_split t.old result t.new }
 {
     sized::run(t, Sizes::RIG)
 }
 
 // May the island bid for a split?
 pub fn may_bid(t: &[u32], island: Island) -> BidAnswer
-    ensures { Asks rig (mayBid island.0) refusedBid t.now result }
+    ensures { Asks rig (may_bid island.0) refused_bid t.now result }
 {
     let i = island.0;
     sized::may_bid(t, Sizes::RIG, i)

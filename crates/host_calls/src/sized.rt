@@ -1,17 +1,17 @@
 // The calls at any sizes, on any words: the audit, and then the step on sound tables.
 ghost use Rattle.std.specs.Prelude.{◌≡◌, ◌/◌, ◌%◌, ◌≤◌, length};
-ghost use Rattle.def_state.specs.Bodies.{put as putStep, flags as flagsStep, retire as retireStep, island as islandOf};
+ghost use Rattle.def_state.specs.Bodies.{put as putStep, flags as flagsStep, retire as retireStep, island as island_of};
 ghost use Rattle.def_state.specs.Membership.{ensure as ensureStep, remove as removeStep};
-ghost use Rattle.def_state.specs.Links.{link-contact, unlink-contact, contact-edge-removed, link-joint, unlink-joint};
-ghost use Rattle.def_state.specs.Resolver.{resolve-removals};
-ghost use Rattle.def_state.specs.Chain.{refresh-multibody-chain};
-ghost use Rattle.core_laws.specs.Chaining.{handlesFrom};
+ghost use Rattle.def_state.specs.Links.{link_contact, unlink_contact, contact_edge_removed, link_joint, unlink_joint};
+ghost use Rattle.def_state.specs.Resolver.{resolve_removals};
+ghost use Rattle.def_state.specs.Chain.{refresh_multibody_chain};
+ghost use Rattle.core_laws.specs.Chaining.{handles_from};
 ghost use Rattle.table_meaning.specs.Does.{Called, Asks};
-ghost use Rattle.def_state.specs.Split.{split-island-now, schedule-split, run-pending-split};
-ghost use Rattle.host_calls.specs.Refusal.{refusedIsland, mayBid, refusedBid};
-ghost use Rattle.host_calls.specs.Keys.{keyIs};
+ghost use Rattle.def_state.specs.Split.{split_island_now, schedule_split, run_pending_split};
+ghost use Rattle.host_calls.specs.Refusal.{refused_island, may_bid, refused_bid};
+ghost use Rattle.host_calls.specs.Keys.{key_is};
 ghost use Rattle.core_laws.specs.Steps.{handle};
-ghost use Rattle.def_state.specs.Scan.{begin-sleep-scan, observe-body-for-sleep, mark-island-sleeping, wake-island};
+ghost use Rattle.def_state.specs.Scan.{begin_sleep_scan, observe_body_for_sleep, mark_island_sleeping, wake_island};
 ghost use Rattle.core_finish.specs.Listing.{Finish};
 
 use def_kinds::{Answer, BidAnswer, Island, IslandAnswer, JointKey, ListAnswer, NONE, Sizes};
@@ -78,7 +78,7 @@ pub fn retire(t: &mut [u32], z: Sizes, s: u32, g: u32) -> Answer
 }
 
 pub fn island(t: &[u32], z: Sizes, s: u32, g: u32) -> IslandAnswer
-    ensures { Asks z (islandOf (handle s g)) refusedIsland t.now result }
+    ensures { Asks z (island_of (handle s g)) refused_island t.now result }
 {
     if !table_audit::sound(t, z) {
         return IslandAnswer {
@@ -90,7 +90,7 @@ pub fn island(t: &[u32], z: Sizes, s: u32, g: u32) -> IslandAnswer
 }
 
 pub fn uncontact(t: &mut [u32], z: Sizes, e: u32) -> Answer
-    ensures { Called z (unlink-contact z e) t.old result t.new }
+    ensures { Called z (unlink_contact z e) t.old result t.new }
 {
     if !table_audit::sound(t, z) {
         return Answer::BadTables;
@@ -99,7 +99,7 @@ pub fn uncontact(t: &mut [u32], z: Sizes, e: u32) -> Answer
 }
 
 pub fn resolve(t: &mut [u32], z: Sizes) -> Answer
-    ensures { Called z resolve-removals t.old result t.new }
+    ensures { Called z resolve_removals t.old result t.new }
 {
     if !table_audit::sound(t, z) {
         return Answer::BadTables;
@@ -108,7 +108,7 @@ pub fn resolve(t: &mut [u32], z: Sizes) -> Answer
 }
 
 pub fn contact(t: &mut [u32], z: Sizes, e: u32, s1: u32, g1: u32, s2: u32, g2: u32) -> Answer
-    ensures { Called z (link-contact z e (handle s1 g1) (handle s2 g2)) t.old result t.new }
+    ensures { Called z (link_contact z e (handle s1 g1) (handle s2 g2)) t.old result t.new }
 {
     if !table_audit::sound(t, z) {
         return Answer::BadTables;
@@ -117,7 +117,7 @@ pub fn contact(t: &mut [u32], z: Sizes, e: u32, s1: u32, g1: u32, s2: u32, g2: u
 }
 
 pub fn renumber(t: &mut [u32], z: Sizes, removed: u32, last: u32) -> Answer
-    ensures { Called z (contact-edge-removed removed last) t.old result t.new }
+    ensures { Called z (contact_edge_removed removed last) t.old result t.new }
 {
     if !table_audit::sound(t, z) {
         return Answer::BadTables;
@@ -139,7 +139,7 @@ pub fn low_half(multibody: u64) -> u32
 }
 
 pub fn joint(t: &mut [u32], z: Sizes, key: JointKey, s1: u32, g1: u32, s2: u32, g2: u32) -> Answer
-    ensures { Called z (link-joint z (keyIs key) (handle s1 g1) (handle s2 g2)) t.old result t.new }
+    ensures { Called z (link_joint z (key_is key) (handle s1 g1) (handle s2 g2)) t.old result t.new }
 {
     if !table_audit::sound(t, z) {
         return Answer::BadTables;
@@ -157,7 +157,7 @@ pub fn joint(t: &mut [u32], z: Sizes, key: JointKey, s1: u32, g1: u32, s2: u32, 
 }
 
 pub fn unjoint(t: &mut [u32], z: Sizes, key: JointKey) -> Answer
-    ensures { Called z (unlink-joint z (keyIs key)) t.old result t.new }
+    ensures { Called z (unlink_joint z (key_is key)) t.old result t.new }
 {
     if !table_audit::sound(t, z) {
         return Answer::BadTables;
@@ -176,7 +176,7 @@ pub fn unjoint(t: &mut [u32], z: Sizes, key: JointKey) -> Answer
 
 // The list has two words a handle, its slot and its generation.
 pub fn chain(t: &mut [u32], z: Sizes, multibody: u64, list: &[u32]) -> Answer
-    ensures { Called z (refresh-multibody-chain z (multibody / 4294967296) (multibody % 4294967296) (handlesFrom list.now 0 (length list.now / 2))) t.old result t.new }
+    ensures { Called z (refresh_multibody_chain z (multibody / 4294967296) (multibody % 4294967296) (handles_from list.now 0 (length list.now / 2))) t.old result t.new }
 {
     if !table_audit::sound(t, z) {
         return Answer::BadTables;
@@ -193,7 +193,7 @@ pub fn chain(t: &mut [u32], z: Sizes, multibody: u64, list: &[u32]) -> Answer
 // ---- the sleep scan
 
 pub fn begin(t: &mut [u32], z: Sizes) -> Answer
-    ensures { Called z begin-sleep-scan t.old result t.new }
+    ensures { Called z begin_sleep_scan t.old result t.new }
 {
     if !table_audit::sound(t, z) {
         return Answer::BadTables;
@@ -202,7 +202,7 @@ pub fn begin(t: &mut [u32], z: Sizes) -> Answer
 }
 
 pub fn observe(t: &mut [u32], z: Sizes, i: u32, eligible: bool) -> Answer
-    ensures { Called z (observe-body-for-sleep i eligible) t.old result t.new }
+    ensures { Called z (observe_body_for_sleep i eligible) t.old result t.new }
 {
     if !table_audit::sound(t, z) {
         return Answer::BadTables;
@@ -224,7 +224,7 @@ pub fn finish(t: &mut [u32], z: Sizes, out: &mut [u32]) -> ListAnswer
 }
 
 pub fn sleep(t: &mut [u32], z: Sizes, i: u32) -> Answer
-    ensures { Called z (mark-island-sleeping i) t.old result t.new }
+    ensures { Called z (mark_island_sleeping i) t.old result t.new }
 {
     if !table_audit::sound(t, z) {
         return Answer::BadTables;
@@ -233,7 +233,7 @@ pub fn sleep(t: &mut [u32], z: Sizes, i: u32) -> Answer
 }
 
 pub fn wake(t: &mut [u32], z: Sizes, i: u32) -> Answer
-    ensures { Called z (wake-island i) t.old result t.new }
+    ensures { Called z (wake_island i) t.old result t.new }
 {
     if !table_audit::sound(t, z) {
         return Answer::BadTables;
@@ -245,7 +245,7 @@ pub fn wake(t: &mut [u32], z: Sizes, i: u32) -> Answer
 
 pub fn split(t: &mut [u32], z: Sizes, i: u32) -> Answer
     requires { z.slots ≤ 4096 }
-    ensures { Called z (split-island-now i) t.old result t.new }
+    ensures { Called z (split_island_now i) t.old result t.new }
 {
     if !table_audit::sound(t, z) {
         return Answer::BadTables;
@@ -254,7 +254,7 @@ pub fn split(t: &mut [u32], z: Sizes, i: u32) -> Answer
 }
 
 pub fn schedule(t: &mut [u32], z: Sizes, i: u32) -> Answer
-    ensures { Called z (schedule-split i) t.old result t.new }
+    ensures { Called z (schedule_split i) t.old result t.new }
 {
     if !table_audit::sound(t, z) {
         return Answer::BadTables;
@@ -264,7 +264,7 @@ pub fn schedule(t: &mut [u32], z: Sizes, i: u32) -> Answer
 
 pub fn run(t: &mut [u32], z: Sizes) -> Answer
     requires { z.slots ≤ 4096 }
-    ensures { Called z run-pending-split t.old result t.new }
+    ensures { Called z run_pending_split t.old result t.new }
 {
     if !table_audit::sound(t, z) {
         return Answer::BadTables;
@@ -273,7 +273,7 @@ pub fn run(t: &mut [u32], z: Sizes) -> Answer
 }
 
 pub fn may_bid(t: &[u32], z: Sizes, i: u32) -> BidAnswer
-    ensures { Asks z (mayBid i) refusedBid t.now result }
+    ensures { Asks z (may_bid i) refused_bid t.now result }
 {
     if !table_audit::sound(t, z) {
         return BidAnswer {

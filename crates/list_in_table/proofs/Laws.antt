@@ -23,25 +23,25 @@ either {A} a b f g = go (ℕ_discrete a b)
 module _ {n m : ℕ} {S : View} (R : Rules n m S) where
   -- an element that is not blank is held
   pub held : (e : ℕ) → e < n → S.home e ≢ none → Held n m S e
-  held e l h = ⊎_elim (λ b. absurd (h b.home-none)) (λ k. k) (R.elem e l)
+  held e l h = ⊎_elim (λ b. absurd (h b.home_none)) (λ k. k) (R.elem e l)
 
   pub held_in : (e i : ℕ) → e < n → i < m → S.home e ≡ i → Held n m S e
-  held_in e i l k h = held e l (let s : m ≤ none = R.m-small in omega arith)
+  held_in e i l k h = held e l (let s : m ≤ none = R.m_small in omega arith)
 
   -- a list that is not empty has a last element
   pub full : (i : ℕ) → i < m → S.count i ≢ 0 → Full n m S i
-  full i l h = ⊎_elim (λ o. absurd (h o.no-count)) (λ f. f) (R.list i l)
+  full i l h = ⊎_elim (λ o. absurd (h o.no_count)) (λ f. f) (R.list i l)
 
   -- a list's last is none or an element
-  pub last-lt : (i : ℕ) → i < m → S.last i ≢ none → S.last i < n
-  last-lt i l h = ⊎_elim (λ o. absurd (h o.no_last)) (λ f. f.last-lt) (R.list i l)
+  pub last_lt : (i : ℕ) → i < m → S.last i ≢ none → S.last i < n
+  last_lt i l h = ⊎_elim (λ o. absurd (h o.no_last)) (λ f. f.last_lt) (R.list i l)
 
-  pub prev-lt : (e : ℕ) → Held n m S e → S.prev e ≢ none → S.prev e < n
-  prev-lt e k h = ⊎_elim (λ f. absurd (h f.no-prev)) (λ a. a.prev-lt) k.back
+  pub prev_lt : (e : ℕ) → Held n m S e → S.prev e ≢ none → S.prev e < n
+  prev_lt e k h = ⊎_elim (λ f. absurd (h f.no_prev)) (λ a. a.prev_lt) k.back
 
   -- the last of e's list
   pub end : (e : ℕ) → Held n m S e → Full n m S (S.home e)
-  end e k = full (S.home e) k.home-lt (let h : S.place e < S.count (S.home e) = k.place-lt in omega arith)
+  end e k = full (S.home e) k.home_lt (let h : S.place e < S.count (S.home e) = k.place_lt in omega arith)
 
   -- where e is not the last, there is one after it
   pub before : (e : ℕ) → Held n m S e → S.last (S.home e) ≢ e → Before n m S e
@@ -52,9 +52,9 @@ module _ {n m : ℕ} {S : View} (R : Rules n m S) where
   after-end e k h =
       let b : Before n m S e = before e k h in
       let f : Full n m S (S.home e) = end e k in
-      let kq : Held n m S (S.last (S.home e)) = held_in (S.last (S.home e)) (S.home e) f.last-lt k.home-lt f.last-home in
-      let kx : Held n m S (S.next e) = held_in (S.next e) (S.home e) b.next-lt k.home-lt b.next-home in
-      let l : S.place (S.next e) < S.count (S.home e) = rw b.next-home at kx.place-lt in
+      let kq : Held n m S (S.last (S.home e)) = held_in (S.last (S.home e)) (S.home e) f.last_lt k.home_lt f.last_home in
+      let kx : Held n m S (S.next e) = held_in (S.next e) (S.home e) b.next_lt k.home_lt b.next_home in
+      let l : S.place (S.next e) < S.count (S.home e) = rw b.next_home at kx.place_lt in
       ⊎_elim (λ o. absurd (omega arith)) (λ a. a) kq.back
 
   -- the last has none after it
@@ -62,51 +62,51 @@ module _ {n m : ℕ} {S : View} (R : Rules n m S) where
   last-final e l k q =
       ⊎_elim (λ f. f)
       (λ b.
-      let kx : Held n m S (S.next e) = held_in (S.next e) (S.home e) b.next-lt k.home-lt b.next-home in
-      let h : S.place (S.next e) < S.count (S.home e) = rw b.next-home at kx.place-lt in
+      let kx : Held n m S (S.next e) = held_in (S.next e) (S.home e) b.next_lt k.home_lt b.next_home in
+      let h : S.place (S.next e) < S.count (S.home e) = rw b.next_home at kx.place_lt in
       let f : Full n m S (S.home e) = end e k in
-      let p : S.place e + 1 ≡ S.count (S.home e) = rw q at f.last-place in
+      let p : S.place e + 1 ≡ S.count (S.home e) = rw q at f.last_place in
       let x = b.next_place in
       absurd (omega arith))
       k.fore
 
 -- what swap_remove reads, in bounds
 pub record Known (t : List ℕ) (b z e n m : ℕ) : Type 0 where
-  pub e-lt : e < n
-  pub n-small : n ≤ none
-  pub m-small : m ≤ none
-  pub elems-below : b + 4 * n ≤ z
-  pub lists-below : z + 2 * m ≤ length t
-  pub home-lt : (view t b z).home e < m
-  pub count-pos : 0 < (view t b z).count ((view t b z).home e)
-  pub last-lt : (view t b z).last ((view t b z).home e) < n
-  pub prev-ok : (view t b z).prev e ≢ none → (view t b z).prev e < n
+  pub e_lt : e < n
+  pub n_small : n ≤ none
+  pub m_small : m ≤ none
+  pub elems_below : b + 4 * n ≤ z
+  pub lists_below : z + 2 * m ≤ length t
+  pub home_lt : (view t b z).home e < m
+  pub count_pos : 0 < (view t b z).count ((view t b z).home e)
+  pub last_lt : (view t b z).last ((view t b z).home e) < n
+  pub prev_ok : (view t b z).prev e ≢ none → (view t b z).prev e < n
 
 pub known : {t : List ℕ} {b z e : ℕ} (r : RemoveReady t b z e) → Known t b z e r.n r.m
 known {t} {b} {z} {e} r =
     let R = r.wf.rules in
-    let k : Held r.n r.m (view t b z) e = held R e r.elem-lt r.elem-held in
+    let k : Held r.n r.m (view t b z) e = held R e r.elem_lt r.elem_held in
     record {
-      e-lt = r.elem-lt;
-      n-small = R.n-small;
-      m-small = R.m-small;
-      elems-below = r.wf.elems-below;
-      lists-below = r.wf.lists-below;
-      home-lt = k.home-lt;
-      count-pos = (let h : (view t b z).place e < (view t b z).count ((view t b z).home e) = k.place-lt in omega arith);
-      last-lt = (end R e k).last-lt;
-      prev-ok = prev-lt R e k;
+      e_lt = r.elem_lt;
+      n_small = R.n_small;
+      m_small = R.m_small;
+      elems_below = r.wf.elems_below;
+      lists_below = r.wf.lists_below;
+      home_lt = k.home_lt;
+      count_pos = (let h : (view t b z).place e < (view t b z).count ((view t b z).home e) = k.place_lt in omega arith);
+      last_lt = (end R e k).last_lt;
+      prev_ok = prev_lt R e k;
     }
 
 pub record Inner (t : List ℕ) (b z e n m : ℕ) : Type 0 where
-  pub next-lt : (view t b z).next e < n
-  pub prev-last : (view t b z).prev ((view t b z).last ((view t b z).home e)) < n
+  pub next_lt : (view t b z).next e < n
+  pub prev_last : (view t b z).prev ((view t b z).last ((view t b z).home e)) < n
 
 pub inner : {t : List ℕ} {b z e : ℕ} (r : RemoveReady t b z e) → (view t b z).last ((view t b z).home e) ≢ e → Inner t b z e r.n r.m
 inner {t} {b} {z} {e} r h =
     let R = r.wf.rules in
-    let k : Held r.n r.m (view t b z) e = held R e r.elem-lt r.elem-held in
-    record { next-lt = (before R e k h).next-lt; prev-last = (after-end R e k h).prev-lt }
+    let k : Held r.n r.m (view t b z) e = held R e r.elem_lt r.elem_held in
+    record { next_lt = (before R e k h).next_lt; prev_last = (after-end R e k h).prev_lt }
 
 -- an element's address: what the code's arithmetic asks
 module _ (b n L k : ℕ) (kl : k < n) (room : b + 4 * n ≤ L) (good : L * 4 < 2 ^ 63) where

@@ -7,13 +7,13 @@ use native.Mathlib.Numerals.{add-one}
 use mathlib.Core.List.{List, [], ◌∷◌, ◌++◌}
 use lib.ListN.{length, get_or, set, take, length-set, length-append, get_or-append}
 use lib.Seq.{get_or-set_same, get_or-set_other, get_or_at, ext_get_or, get_or-take, length-take-le}
-use Rattle.list_in_table.specs.Rules.{none, View, Rules, Held, Blank, First, After, Final, Before, Empty, Full, walk, list_of, swapRemove}
+use Rattle.list_in_table.specs.Rules.{none, View, Rules, Held, Blank, First, After, Final, Before, Empty, Full, walk, list_of, swap_remove}
 use Rattle.list_in_table.proofs.Laws.{either, held, held_in, full, end}
 
 -- x is the element of list i at place p
 pub record At (n : ℕ) (S : View) (i p x : ℕ) : Type 0 where
   pub lt : x < n
-  pub home-is : S.home x ≡ i
+  pub home_is : S.home x ≡ i
   pub place_is : S.place x ≡ p
 
 length-walk : (v : ℕ → ℕ) (k q : ℕ) → length (walk v k q) ≡ k
@@ -40,11 +40,11 @@ module _ {n m : ℕ} {S : View} (R : Rules n m S) (i : ℕ) (il : i < m) where
   walk_at zero q p l h e g = absurd (omega arith)
   walk_at (suc k) q p l h e g =
       either p k
-      (λ s. rw (s, walk_end S.prev k q) (record { lt = l; home-is = h; place_is = omega arith }))
+      (λ s. rw (s, walk_end S.prev k q) (record { lt = l; home_is = h; place_is = omega arith }))
       (λ d.
       rw (walk-in S.prev k q p (omega arith))
       (⊎_elim (λ f. absurd (let z : S.place q ≡ 0 = f.at_zero in omega arith))
-      (λ (a : After n m S q). walk_at k (S.prev q) p a.prev-lt (a.prev-home ∙ h) (let z = a.prev-place in omega arith) (omega arith))
+      (λ (a : After n m S q). walk_at k (S.prev q) p a.prev_lt (a.prev_home ∙ h) (let z = a.prev_place in omega arith) (omega arith))
       (held_in R q i l il h).back))
 
   pub length-list : length (list_of S i) ≡ S.count i
@@ -56,7 +56,7 @@ module _ {n m : ℕ} {S : View} (R : Rules n m S) (i : ℕ) (il : i < m) where
   unfolding list_of
   list_at p l =
       let f : Full n m S i = full R i il (omega arith) in
-      walk_at (S.count i) (S.last i) p f.last-lt f.last-home f.last-place l
+      walk_at (S.count i) (S.last i) p f.last_lt f.last_home f.last_place l
 
   -- from the last down to x
   find : (d x : ℕ) → x < n → S.home x ≡ i → S.place x + suc d ≡ S.count i → get_or (list_of S i) (S.place x) 0 ≡ x
@@ -68,24 +68,24 @@ module _ {n m : ℕ} {S : View} (R : Rules n m S) (i : ℕ) (il : i < m) where
       let s : suc (S.place x) ≡ S.count i = omega arith in
       subst (λ (c : ℕ). get_or (walk S.prev c (S.last i)) (S.place x) 0 ≡ x) s (walk_end S.prev (S.place x) (S.last i) ∙ q))
       (λ (b : Before n m S x).
-      let o : S.home (S.next x) ≡ i = b.next-home ∙ h in
-      let g : S.place (S.next x) < S.count i = rw o at (held_in R (S.next x) i b.next-lt il o).place-lt in
+      let o : S.home (S.next x) ≡ i = b.next_home ∙ h in
+      let g : S.place (S.next x) < S.count i = rw o at (held_in R (S.next x) i b.next_lt il o).place_lt in
       let z = b.next_place in
       absurd (omega arith))
       k.fore
   find (suc d) x l h e =
       let k : Held n m S x = held_in R x i l il h in
-      ⊎_elim (λ (f : Final n m S x). let z : S.place x + 1 ≡ S.count i = rw h at f.at-end in absurd (omega arith))
+      ⊎_elim (λ (f : Final n m S x). let z : S.place x + 1 ≡ S.count i = rw h at f.at_end in absurd (omega arith))
       (λ (b : Before n m S x).
-      let r : get_or (list_of S i) (S.place (S.next x)) 0 ≡ S.next x = find d (S.next x) b.next-lt (b.next-home ∙ h) (let z = b.next_place in omega arith) in
+      let r : get_or (list_of S i) (S.place (S.next x)) 0 ≡ S.next x = find d (S.next x) b.next_lt (b.next_home ∙ h) (let z = b.next_place in omega arith) in
       let s : S.place (S.next x) ≡ suc (S.place x) = b.next_place ∙ add-one (S.place x) in
-      walk-prev S.prev (S.count i) (S.last i) (S.place x) (omega arith) ∙ ap S.prev (rw s at r) ∙ b.next-prev)
+      walk-prev S.prev (S.count i) (S.last i) (S.place x) (omega arith) ∙ ap S.prev (rw s at r) ∙ b.next_prev)
       k.fore
 
   -- where x stands
   pub list-of : (x : ℕ) → x < n → S.home x ≡ i → get_or (list_of S i) (S.place x) 0 ≡ x
   list-of x l h =
-      let g : S.place x < S.count i = rw h at (held_in R x i l il h).place-lt in
+      let g : S.place x < S.count i = rw h at (held_in R x i l il h).place_lt in
       find (S.count i - suc (S.place x)) x l h (omega arith)
 
   -- a list that has at each place the element that is there is the list i
@@ -94,4 +94,4 @@ module _ {n m : ℕ} {S : View} (R : Rules n m S) (i : ℕ) (il : i < m) where
       ext_get_or 0 (list_of S i) L (length-list ∙ sym s)
       (λ p g.
       let a : At n S i p (get_or L p 0) = h p (rw length-list at g) in
-      rw a.place_is at (list-of (get_or L p 0) a.lt a.home-is))
+      rw a.place_is at (list-of (get_or L p 0) a.lt a.home_is))

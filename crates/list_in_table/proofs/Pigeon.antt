@@ -74,7 +74,7 @@ module _ {n m : ℕ} {S : View} (R : Rules n m S) where
       let fe : (p : ℕ) → p ≡ S.count i → f p ≡ e = λ p q. rw (eq-eqb p (S.count i) q) in
       let fn : (p : ℕ) → p ≢ S.count i → f p ≡ L p = λ p q. rw (ne_eqb p (S.count i) q) in
       let ne : (p : ℕ) → p < S.count i → L p ≢ e =
-      λ p h q. (let a : S.home (L p) ≡ i = (list_at R i l p h).home-is in let b : S.home (L p) ≡ S.home e = ap S.home q in let s = R.m-small in omega arith) in
+      λ p h q. (let a : S.home (L p) ≡ i = (list_at R i l p h).home_is in let b : S.home (L p) ≡ S.home e = ap S.home q in let s = R.m_small in omega arith) in
       let h =
       pigeon n (suc (S.count i)) f
       (λ p hp. either p (S.count i) (λ q. let z = fe p q in omega arith) (λ q. let z = fn p q in let y = (list_at R i l p (omega arith)).lt in omega arith))
@@ -109,8 +109,8 @@ module _ {n m : ℕ} {S : View} (R : Rules n m S) where
       (λ zp.
       let up = hi p (omega arith) hp in
       either (S.count i - q) 0 (λ zq. let uq = hi q (omega arith) hq in omega arith)
-      (λ zq. absurd (d (sym (lo q (omega arith)).home-is ∙ sym eh ∙ up.home-is))))
+      (λ zq. absurd (d (sym (lo q (omega arith)).home_is ∙ sym eh ∙ up.home_is))))
       (λ zp.
       let up = lo p (omega arith) in
-      either (S.count i - q) 0 (λ zq. absurd (d (sym up.home-is ∙ eh ∙ (hi q (omega arith) hq).home-is)))
+      either (S.count i - q) 0 (λ zq. absurd (d (sym up.home_is ∙ eh ∙ (hi q (omega arith) hq).home_is)))
       (λ zq. let uq = lo q (omega arith) in omega arith)))

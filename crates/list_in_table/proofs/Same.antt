@@ -30,10 +30,10 @@ module _ {n m : ℕ} {S S' : View} (R : Rules n m S) (R' : Rules n m S') (L : (i
   found e el h =
       let i = S.home e in
       let p = S.place e in
-      let c = same_count i h.home-lt in
-      let pl : p < S.count i = h.place-lt in
-      let q : get_or (list_of S' i) p 0 ≡ e = ap (λ (x : List ℕ). get_or x p 0) (sym (L i h.home-lt)) ∙ list-of R i h.home-lt e el refl in
-      subst (λ (x : ℕ). At n S' i p x) q (list_at R' i h.home-lt p (omega arith))
+      let c = same_count i h.home_lt in
+      let pl : p < S.count i = h.place_lt in
+      let q : get_or (list_of S' i) p 0 ≡ e = ap (λ (x : List ℕ). get_or x p 0) (sym (L i h.home_lt)) ∙ list-of R i h.home_lt e el refl in
+      subst (λ (x : ℕ). At n S' i p x) q (list_at R' i h.home_lt p (omega arith))
 
   -- what stands at p in the list i
   pub same_at : (i p x y : ℕ) → i < m → x < n → y < n → S.home x ≡ i → S.place x ≡ p → S'.home y ≡ i → S'.place y ≡ p → x ≡ y
@@ -51,10 +51,10 @@ module _ {n m : ℕ} {S S' : View} (R : Rules n m S) (R' : Rules n m S') (L : (i
   held-alike : (e : ℕ) → e < n → Held n m S e → Alike S S' e
   held-alike e el h =
       let a : At n S' (S.home e) (S.place e) e = found R R' L e el h in
-      let hi : S'.home e ≡ S.home e = a.home-is in
+      let hi : S'.home e ≡ S.home e = a.home_is in
       let pi : S'.place e ≡ S.place e = a.place_is in
-      let c : S.count (S.home e) ≡ S'.count (S.home e) = same_count R R' L (S.home e) h.home-lt in
-      let h' : Held n m S' e = held_in R' e (S.home e) el h.home-lt hi in
+      let c : S.count (S.home e) ≡ S'.count (S.home e) = same_count R R' L (S.home e) h.home_lt in
+      let h' : Held n m S' e = held_in R' e (S.home e) el h.home_lt hi in
       let ch : S'.count (S'.home e) ≡ S'.count (S.home e) = ap S'.count hi in
       record {
         home = sym hi;
@@ -62,38 +62,38 @@ module _ {n m : ℕ} {S S' : View} (R : Rules n m S) (R' : Rules n m S') (L : (i
         prev =
             ⊎_elim
             (λ (f : First n m S e).
-            ⊎_elim (λ (f' : First n m S' e). f.no-prev ∙ sym f'.no-prev)
-            (λ (g' : After n m S' e). absurd (let x = f.at_zero in let y = g'.prev-place in omega arith))
+            ⊎_elim (λ (f' : First n m S' e). f.no_prev ∙ sym f'.no_prev)
+            (λ (g' : After n m S' e). absurd (let x = f.at_zero in let y = g'.prev_place in omega arith))
             h'.back)
             (λ (g : After n m S e).
-            ⊎_elim (λ (f' : First n m S' e). absurd (let x = f'.at_zero in let y = g.prev-place in omega arith))
+            ⊎_elim (λ (f' : First n m S' e). absurd (let x = f'.at_zero in let y = g.prev_place in omega arith))
             (λ (g' : After n m S' e).
-            same_at R R' L (S.home e) (S.place e - 1) (S.prev e) (S'.prev e) h.home-lt g.prev-lt g'.prev-lt g.prev-home
-            (let y = g.prev-place in omega arith) (g'.prev-home ∙ hi) (let y = g'.prev-place in omega arith))
+            same_at R R' L (S.home e) (S.place e - 1) (S.prev e) (S'.prev e) h.home_lt g.prev_lt g'.prev_lt g.prev_home
+            (let y = g.prev_place in omega arith) (g'.prev_home ∙ hi) (let y = g'.prev_place in omega arith))
             h'.back)
             h.back;
         next =
             ⊎_elim
             (λ (f : Final n m S e).
-            ⊎_elim (λ (f' : Final n m S' e). f.no-next ∙ sym f'.no-next)
+            ⊎_elim (λ (f' : Final n m S' e). f.no_next ∙ sym f'.no_next)
             (λ (g' : Before n m S' e).
             absurd
-            (let k : Held n m S' (S'.next e) = held_in R' (S'.next e) (S.home e) g'.next-lt h.home-lt (g'.next-home ∙ hi) in
-            let kl = k.place-lt in
-            let kc : S'.count (S'.home (S'.next e)) ≡ S'.count (S.home e) = ap S'.count (g'.next-home ∙ hi) in
-            let x = f.at-end in
+            (let k : Held n m S' (S'.next e) = held_in R' (S'.next e) (S.home e) g'.next_lt h.home_lt (g'.next_home ∙ hi) in
+            let kl = k.place_lt in
+            let kc : S'.count (S'.home (S'.next e)) ≡ S'.count (S.home e) = ap S'.count (g'.next_home ∙ hi) in
+            let x = f.at_end in
             let y = g'.next_place in
             omega arith))
             h'.fore)
             (λ (g : Before n m S e).
-            let k : Held n m S (S.next e) = held_in R (S.next e) (S.home e) g.next-lt h.home-lt g.next-home in
-            let kl = k.place-lt in
-            let kc : S.count (S.home (S.next e)) ≡ S.count (S.home e) = ap S.count g.next-home in
+            let k : Held n m S (S.next e) = held_in R (S.next e) (S.home e) g.next_lt h.home_lt g.next_home in
+            let kl = k.place_lt in
+            let kc : S.count (S.home (S.next e)) ≡ S.count (S.home e) = ap S.count g.next_home in
             let y = g.next_place in
-            ⊎_elim (λ (f' : Final n m S' e). absurd (let x = f'.at-end in omega arith))
+            ⊎_elim (λ (f' : Final n m S' e). absurd (let x = f'.at_end in omega arith))
             (λ (g' : Before n m S' e).
-            same_at R R' L (S.home e) (S.place e + 1) (S.next e) (S'.next e) h.home-lt g.next-lt g'.next-lt g.next-home g.next_place
-            (g'.next-home ∙ hi) (g'.next_place ∙ ap (λ (x : ℕ). x + 1) pi))
+            same_at R R' L (S.home e) (S.place e + 1) (S.next e) (S'.next e) h.home_lt g.next_lt g'.next_lt g.next_home g.next_place
+            (g'.next_home ∙ hi) (g'.next_place ∙ ap (λ (x : ℕ). x + 1) pi))
             h'.fore)
             h.fore;
       }
@@ -104,13 +104,13 @@ module _ {n m : ℕ} {S S' : View} (R : Rules n m S) (R' : Rules n m S') (L : (i
       ⊎_elim
       (λ (o : Empty n m S i).
       ⊎_elim (λ (o' : Empty n m S' i). o.no_last ∙ sym o'.no_last)
-      (λ (f' : Full n m S' i). absurd (let x = o.no-count in let y = f'.last-place in omega arith))
+      (λ (f' : Full n m S' i). absurd (let x = o.no_count in let y = f'.last_place in omega arith))
       (R'.list i il))
       (λ (f : Full n m S i).
-      ⊎_elim (λ (o' : Empty n m S' i). absurd (let x = o'.no-count in let y = f.last-place in omega arith))
+      ⊎_elim (λ (o' : Empty n m S' i). absurd (let x = o'.no_count in let y = f.last_place in omega arith))
       (λ (f' : Full n m S' i).
-      same_at R R' L i (S.count i - 1) (S.last i) (S'.last i) il f.last-lt f'.last-lt f.last-home (let y = f.last-place in omega arith)
-      f'.last-home (let y = f'.last-place in omega arith))
+      same_at R R' L i (S.count i - 1) (S.last i) (S'.last i) il f.last_lt f'.last_lt f.last_home (let y = f.last_place in omega arith)
+      f'.last_home (let y = f'.last_place in omega arith))
       (R'.list i il))
       (R.list i il)
 
@@ -122,10 +122,10 @@ module _ {n m : ℕ} {S S' : View} (R : Rules n m S) (R' : Rules n m S') (L : (i
       ⊎_elim
       (λ (b' : Blank n m S' e).
       record {
-        home = b.home-none ∙ sym b'.home-none;
+        home = b.home_none ∙ sym b'.home_none;
         place = b.place_none ∙ sym b'.place_none;
-        prev = b.prev-none ∙ sym b'.prev-none;
-        next = b.next-none ∙ sym b'.next-none;
+        prev = b.prev_none ∙ sym b'.prev_none;
+        next = b.next_none ∙ sym b'.next_none;
       })
       (λ (h' : Held n m S' e).
       let a = held-alike R' R (λ i l. sym (L i l)) e el h' in

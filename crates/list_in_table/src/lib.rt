@@ -1,7 +1,7 @@
 // Lists through a table of words: an element is put last, or taken out by swap removal.
 ghost use Rattle.std.specs.Prelude.{◌≡◌, ◌≢◌, ℕ, ◌+◌, ◌*◌, ◌<◌, ◌≤◌, length, get_or};
 ghost use Rattle.list_in_table.specs.Rules.{none};
-ghost use Rattle.list_in_table.specs.Table.{nextSet, pushed, removed, PushReady, RemoveReady};
+ghost use Rattle.list_in_table.specs.Table.{next_set, pushed, removed, PushReady, RemoveReady};
 
 use def_kinds::NONE;
 
@@ -22,7 +22,7 @@ pub const LAST: usize = 1;
 // Makes v the next of the element k, or does nothing where k is NONE.
 pub fn set_next(t: &mut [u32], base: usize, k: u32, v: u32)
     requires { k ≢ none → base + 4 * k + 3 < length t.old }
-    ensures { t.new ≡ nextSet t.old base k v }
+    ensures { t.new ≡ next_set t.old base k v }
 {
     if k != NONE {
         let cell = base + CELL * (k as usize);

@@ -1,7 +1,7 @@
 // An element of a chain table hands its place to another (renumber).
 ghost use Rattle.std.specs.Prelude.{◌≡◌, ◌≢◌, ℕ, ◌+◌, ◌*◌, ◌<◌, ◌≤◌, length, get_or};
 ghost use Rattle.list_in_table.specs.Rules.{none};
-ghost use Rattle.list_rename.specs.Renamed.{backSet, renamed, RenameReady};
+ghost use Rattle.list_rename.specs.Renamed.{back_set, renamed, RenameReady};
 
 use def_kinds::NONE;
 use list_in_table::{CELL, END, LAST, NEXT, PLACE, PREV};
@@ -9,7 +9,7 @@ use list_in_table::{CELL, END, LAST, NEXT, PLACE, PREV};
 // Makes v the element before x, or the last of the list i where x is NONE.
 pub fn set_back(t: &mut [u32], base: usize, ends: usize, i: u32, x: u32, v: u32)
     requires { (x ≡ none → ends + 2 * i + 1 < length t.old) × (x ≢ none → base + 4 * x + 2 < length t.old) }
-    ensures { t.new ≡ backSet t.old base ends i x v }
+    ensures { t.new ≡ back_set t.old base ends i x v }
 {
     if x == NONE {
         let end = ends + END * (i as usize);

@@ -2,7 +2,7 @@
 use Rattle.std.specs.Prelude.{◌≢◌, ℕ, zero, suc, ◌+◌, ◌*◌, ◌<◌, List, [], ◌∷◌, get_or, set, eqb}
 use Rattle.list_in_table.specs.Word.{writes}
 use Rattle.list_in_table.specs.Rules.{none}
-use Rattle.list_in_table.specs.Table.{Wf, nextSet}
+use Rattle.list_in_table.specs.Table.{Wf, next_set}
 use Rattle.def_kinds.specs.Choice.{pick}
 
 -- the k elements that end in q go to the list h, at the places from c on; with the first of them, or f where k is 0
@@ -22,12 +22,12 @@ spliced t b z g s =
     let r = relabel b g c d t e none in
     pick (eqb d 0)
     t
-    (writes (nextSet (set r.0 (b + 4 * r.1 + 2) l) b l r.1) ((y, c + d) ∷ (y + 1, e) ∷ (x, 0) ∷ (x + 1, none) ∷ []))
+    (writes (next_set (set r.0 (b + 4 * r.1 + 2) l) b l r.1) ((y, c + d) ∷ (y + 1, e) ∷ (x, 0) ∷ (x + 1, none) ∷ []))
 
 pub record SpliceReady (t : List ℕ) (b z g s : ℕ) : Type 0 where
   pub n : ℕ
   pub m : ℕ
   pub wf : Wf t b z n m
   pub big_lt : g < m
-  pub small-lt : s < m
+  pub small_lt : s < m
   pub differ : g ≢ s

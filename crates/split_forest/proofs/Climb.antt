@@ -6,7 +6,7 @@ use native.Mathlib.Numerals.{sub-one}
 use native.Mathlib.Nat.{pow-le-pow_right}
 use native.Mathlib.Omega.{arith}
 use Rattle.list_in_table.proofs.Same.{below}
-use Rattle.split_forest.specs.Forest.{climb, rootOf, Tall, Forest}
+use Rattle.split_forest.specs.Forest.{climb, root_of, Tall, Forest}
 use Rattle.split_forest.proofs.Tallies.{members-le}
 
 -- a root is its own parent, however often
@@ -32,42 +32,42 @@ pub height-le : (k m : ℕ) → 2 ^ k ≤ m → m ≤ 4096 → k ≤ 12
 height-le k m h l =
     below 12 k (λ d. absurd (let w : 2 ^ 13 ≤ 2 ^ k = pow-le-pow_right {n = 2} (omega arith) {i = 13} {j = k} d in omega arith)) (λ d. d)
 
--- so where the size of i's root is at most 4096, the steps lead to rootOf
-pub tall-root : {p z : ℕ → ℕ} {i : ℕ} (t : Tall p z i) → z (climb p t.steps i) ≤ 4096 → rootOf p i ≡ climb p t.steps i
-unfolding rootOf
+-- so where the size of i's root is at most 4096, the steps lead to root_of
+pub tall-root : {p z : ℕ → ℕ} {i : ℕ} (t : Tall p z i) → z (climb p t.steps i) ≤ 4096 → root_of p i ≡ climb p t.steps i
+unfolding root_of
 tall-root {p} {z} {i} t l = climb-past p t.steps 12 i (height-le t.steps _ t.wide l) t.top
 
 module _ {n : ℕ} {p z : ℕ → ℕ} (F : Forest n p z) where
   pub size-le : (r : ℕ) → r < n → p r ≡ r → z r ≤ n
-  size-le r l e = let h = F.counted r l e in let k = members-le (rootOf p) n r in omega arith
+  size-le r l e = let h = F.counted r l e in let k = members-le (root_of p) n r in omega arith
 
   pub tall-size : (i : ℕ) (l : i < n) → z (climb p (F.tall i l).steps i) ≤ 4096
   tall-size i l =
       let t = F.tall i l in
       let h : climb p t.steps i < n = climb-lt p n F.within t.steps i l in
       let k = size-le _ h t.top in
-      let s = F.n-small in
+      let s = F.n_small in
       omega arith
 
-  pub steps-root : (i : ℕ) (l : i < n) → rootOf p i ≡ climb p (F.tall i l).steps i
+  pub steps-root : (i : ℕ) (l : i < n) → root_of p i ≡ climb p (F.tall i l).steps i
   steps-root i l = tall-root (F.tall i l) (tall-size i l)
 
-  pub root-top : (i : ℕ) → i < n → p (rootOf p i) ≡ rootOf p i
+  pub root-top : (i : ℕ) → i < n → p (root_of p i) ≡ root_of p i
   root-top i l = rw (steps-root i l) (F.tall i l).top
 
-  pub root-lt : (i : ℕ) → i < n → rootOf p i < n
-  unfolding rootOf
+  pub root-lt : (i : ℕ) → i < n → root_of p i < n
+  unfolding root_of
   root-lt i l = climb-lt p n F.within 12 i l
 
   -- a walk that ends at a root, however long, ends at this one
-  pub top-root : (k i : ℕ) → i < n → p (climb p k i) ≡ climb p k i → climb p k i ≡ rootOf p i
-  unfolding rootOf
+  pub top-root : (k i : ℕ) → i < n → p (climb p k i) ≡ climb p k i → climb p k i ≡ root_of p i
+  unfolding root_of
   top-root k i l e =
       below 12 k (λ m. climb-past p 12 k i (omega arith) (root-top i l)) (λ m. sym (climb-past p k 12 i m e))
 
   -- a place has its parent's root
-  pub parent-root : (i : ℕ) → i < n → rootOf p (p i) ≡ rootOf p i
-  unfolding rootOf climb
+  pub parent-root : (i : ℕ) → i < n → root_of p (p i) ≡ root_of p i
+  unfolding root_of climb
   parent-root i l = climb-past p 12 13 i (omega arith) (root-top i l)
 
 pub climb-none : (p : ℕ → ℕ) (h i : ℕ) → h ≡ 0 → i ≡ climb p h i

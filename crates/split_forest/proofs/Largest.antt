@@ -9,9 +9,9 @@ use lib.ListN.{get_or-eq_default}
 use borrow.Author.Tests.{lt-ltb, le-ltb}
 use Rattle.list_in_table.proofs.Laws.{either}
 use Rattle.list_in_table.proofs.Same.{below}
-use Rattle.def_state.specs.Connected.{label, tally, weight, most, first, keepLabel}
+use Rattle.def_state.specs.Connected.{label, tally, weight, most, first, keep_label}
 use Rattle.split_forest.specs.Groups.{Inside, Groups}
-use Rattle.split_forest.specs.Forest.{at, rootOf, members, Forest}
+use Rattle.split_forest.specs.Forest.{at, root_of, members, Forest}
 use Rattle.split_forest.proofs.Paths.{agree}
 use Rattle.split_forest.proofs.Tallies.{one-eq, one-ne, tally-same}
 use Rattle.split_forest.proofs.Labels.{length_label, label-le, label-groups, label-own}
@@ -81,19 +81,19 @@ module _ (ls : List (ℕ × ℕ)) (n : ℕ) (k : Inside ls n) where
       (λ m. absurd (let h = f.2 (L b) m in let s : w (L b) ≡ w b = weight-label b f.0 in let q = f.1 in omega arith))
       (λ m. omega arith))
 
-  pub keep-is : first w n ≡ keepLabel (label ls n)
-  unfolding keepLabel
-  keep-is = sym (ap (λ (m : ℕ). L (first w m)) (length_label ls n) ∙ first-own)
+  pub keep_is : first w n ≡ keep_label (label ls n)
+  unfolding keep_label
+  keep_is = sym (ap (λ (m : ℕ). L (first w m)) (length_label ls n) ∙ first-own)
 
 -- the size at a root is the weight
-pub size-weight : {n : ℕ} {p z : ℕ → ℕ} {ls : List (ℕ × ℕ)} → Forest n p z → Groups ls n (rootOf p) → (i : ℕ) → i < n → z (rootOf p i) ≡ weight (label ls n) i
+pub size-weight : {n : ℕ} {p z : ℕ → ℕ} {ls : List (ℕ × ℕ)} → Forest n p z → Groups ls n (root_of p) → (i : ℕ) → i < n → z (root_of p i) ≡ weight (label ls n) i
 unfolding members
 size-weight {n} {p} {z} {ls} F G i l =
-    F.counted (rootOf p i) (root-lt F i l) (root-top F i l)
+    F.counted (root_of p i) (root-lt F i l) (root-top F i l)
     ∙ tally-same _ _ n
     (λ j m.
     let L = label-groups ls n G.inside in
-    either (rootOf p j) (rootOf p i)
+    either (root_of p j) (root_of p i)
     (λ e. one-eq _ _ e ∙ sym (one-eq _ _ (agree G L j i m l e)))
     (λ d. one-ne _ _ d ∙ sym (one-ne _ _ (λ e. d (agree L G j i m l e)))))
     ∙ sym (weight_is ls n i)

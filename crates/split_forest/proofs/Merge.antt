@@ -7,7 +7,7 @@ use native.Mathlib.Omega.{arith}
 use mathlib.Core.List.{List}
 use lib.ListN.{length, set}
 use lib.Seq.{get_or-set_same, get_or-set_other}
-use Rattle.split_forest.specs.Forest.{at, climb, rootOf, Wood, RootReady, Lifted, JoinReady, JoinDone}
+use Rattle.split_forest.specs.Forest.{at, climb, root_of, Wood, RootReady, Lifted, JoinReady, JoinDone}
 use Rattle.split_forest.proofs.Paths.{Turned, groups-alike, groups-more, joined_same, same-joined}
 use Rattle.split_forest.proofs.Climb.{root-top, root-lt, parent-root, size-le}
 use Rattle.split_forest.proofs.Grow.{Hung, turned, grown}
@@ -17,16 +17,16 @@ module _ {parent size : List ℕ} {a b : ℕ} (J : JoinReady parent size a b) wh
   -- what is known of a root
   seen : (i r : ℕ) → i < length parent → r ≡ climb (at parent) 12 i
       → (r < length parent) × (r < length size) × (at size r ≤ 4096) × (at parent r ≡ r)
-  unfolding rootOf
+  unfolding root_of
   seen i r l e =
       let F = J.wood.forest in
       let k : r < length parent = rw e (root-lt F i l) in
       let t : at parent r ≡ r = rw e (root-top F i l) in
       let m = J.wood.as_long in
-      (k, omega arith, (let s = size-le F r k t in let n = F.n-small in omega arith), t)
+      (k, omega arith, (let s = size-le F r k t in let n = F.n_small in omega arith), t)
 
   joins-same : climb (at parent) 12 a ≡ climb (at parent) 12 b → JoinDone (length parent) (at parent) (at parent) (at size) a b false
-  unfolding rootOf
+  unfolding root_of
   joins-same e =
       record {
         forest = J.wood.forest;
@@ -38,29 +38,29 @@ module _ {parent size : List ℕ} {a b : ℕ} (J : JoinReady parent size a b) wh
 
   -- two places under one parent have one root
   pub joins-under : at parent a ≡ at parent b → JoinDone (length parent) (at parent) (at parent) (at size) a b false
-  unfolding rootOf
+  unfolding root_of
   joins-under e =
       let F = J.wood.forest in
       joins-same (sym (parent-root F a J.a_lt) ∙ ap (climb (at parent) 12) e ∙ parent-root F b J.b_lt)
 
   -- s, one of the two roots, hung under t, the other
   module _ (s t : ℕ) (apart : s ≢ t) (le : at size s ≤ at size t)
-      (ends : ((s ≡ rootOf (at parent) a) × (t ≡ rootOf (at parent) b)) ⊎ ((s ≡ rootOf (at parent) b) × (t ≡ rootOf (at parent) a)))
+      (ends : ((s ≡ root_of (at parent) a) × (t ≡ root_of (at parent) b)) ⊎ ((s ≡ root_of (at parent) b) × (t ≡ root_of (at parent) a)))
       (m : ℕ) (sum : m ≡ at size t + at size s)
     where
       known-s : (s < length parent) × (s < length size) × (at size s ≤ 4096) × (at parent s ≡ s)
-      unfolding rootOf
+      unfolding root_of
       known-s = ⊎_elim (λ e. seen a s J.a_lt e.0) (λ e. seen b s J.b_lt e.0) ends
 
       known-t : (t < length parent) × (t < length size) × (at size t ≤ 4096) × (at parent t ≡ t)
-      unfolding rootOf
+      unfolding root_of
       known-t = ⊎_elim (λ e. seen b t J.b_lt e.1) (λ e. seen a t J.a_lt e.1) ends
 
       hung : Hung (at parent) (at (set parent s t)) s t
       hung =
           record {
-            root-s = known-s.3;
-            root-b = known-t.3;
+            root_s = known-s.3;
+            root_b = known-t.3;
             apart = apart;
             hung = get_or-set_same parent s t 0 known-s.0;
             other = λ j d. get_or-set_other parent s j t 0 d;
@@ -69,7 +69,7 @@ module _ {parent size : List ℕ} {a b : ℕ} (J : JoinReady parent size a b) wh
       sum-t : at (set size t m) t ≡ at size t + at size s
       sum-t = get_or-set_same size t m 0 known-t.1 ∙ sum
 
-      T : Turned (length parent) (rootOf (at parent)) (rootOf (at (set parent s t))) s t
+      T : Turned (length parent) (root_of (at parent)) (root_of (at (set parent s t))) s t
       T = turned J.wood.forest hung known-s.0 known-t.0 le sum-t (λ j d. get_or-set_other size t j m 0 d)
 
       joins-hung : JoinDone (length parent) (at parent) (at (set parent s t)) (at (set size t m)) a b true
@@ -84,11 +84,11 @@ module _ {parent size : List ℕ} {a b : ℕ} (J : JoinReady parent size a b) wh
 
   module _ (r q : ℕ) (er : r ≡ climb (at parent) 12 a) (eq : q ≡ climb (at parent) 12 b) (d : r ≢ q) where
     joins-less : at size r < at size q → JoinDone (length parent) (at parent) (at (set parent r q)) (at (set size q (at size r + at size q))) a b true
-    unfolding rootOf
+    unfolding root_of
     joins-less l = joins-hung r q d (omega arith) (inl (er, eq)) (at size r + at size q) (omega arith)
 
     joins-else : at size q ≤ at size r → JoinDone (length parent) (at parent) (at (set parent q r)) (at (set size r (at size r + at size q))) a b true
-    unfolding rootOf
+    unfolding root_of
     joins-else l = joins-hung q r (λ e. d (sym e)) l (inr (eq, er)) (at size r + at size q) refl
 
 -- once a hangs under its root, a walk from b can begin
@@ -96,7 +96,7 @@ pub second-ready : {parent size xs : List ℕ} {a b r : ℕ} → JoinReady paren
 second-ready J A =
     record {
       within = (lifted-wood J.wood J.a_lt A).forest.within;
-      place-lt = rw (lifted-long J.wood J.a_lt A) J.b_lt;
+      place_lt = rw (lifted-long J.wood J.a_lt A) J.b_lt;
     }
 
 -- a hung under its root r, then b under its root q; zs is the list that is left. What a join does to zs, it does to parent
@@ -105,12 +105,12 @@ module _ {parent size xs zs : List ℕ} {a b r q : ℕ} (J : JoinReady parent si
   wood-a = lifted-wood J.wood J.a_lt A
 
   b_lt : b < length xs
-  b_lt = (second-ready J A).place-lt
+  b_lt = (second-ready J A).place_lt
 
   long : length zs ≡ length parent
   long = lifted-long wood-a b_lt B ∙ lifted-long J.wood J.a_lt A
 
-  roots : (j : ℕ) → j < length parent → rootOf (at zs) j ≡ rootOf (at parent) j
+  roots : (j : ℕ) → j < length parent → root_of (at zs) j ≡ root_of (at parent) j
   roots j l =
       lifted-roots wood-a b_lt B j (rw (lifted-long J.wood J.a_lt A) l) ∙ lifted-roots J.wood J.a_lt A j l
 
@@ -118,12 +118,12 @@ module _ {parent size xs zs : List ℕ} {a b r q : ℕ} (J : JoinReady parent si
   ready = record { wood = lifted-wood wood-a b_lt B; a_lt = rw long J.a_lt; b_lt = rw long J.b_lt }
 
   root-a : r ≡ climb (at zs) 12 a
-  unfolding rootOf
+  unfolding root_of
   root-a = A.found ∙ sym (roots a J.a_lt)
 
-  root-b : q ≡ climb (at zs) 12 b
-  unfolding rootOf
-  root-b = B.found ∙ sym (lifted-roots wood-a b_lt B b b_lt)
+  root_b : q ≡ climb (at zs) 12 b
+  unfolding root_of
+  root_b = B.found ∙ sym (lifted-roots wood-a b_lt B b b_lt)
 
   done : {p y : ℕ → ℕ} {t : Bool} → JoinDone (length zs) (at zs) p y a b t → JoinDone (length parent) (at parent) p y a b t
   done D =
@@ -138,16 +138,16 @@ module _ {parent size xs zs : List ℕ} {a b r q : ℕ} (J : JoinReady parent si
   seen-a = seen ready a r ready.a_lt root-a
 
   pub seen_b : (q < length zs) × (q < length size) × (at size q ≤ 4096) × (at zs q ≡ q)
-  seen_b = seen ready b q ready.b_lt root-b
+  seen_b = seen ready b q ready.b_lt root_b
 
   -- the ways out: one root; a's tree the smaller; b's tree no larger
   pub lifted-one : r ≡ q → JoinDone (length parent) (at parent) (at zs) (at size) a b false
-  lifted-one e = done (joins-same ready (sym root-a ∙ e ∙ root-b))
+  lifted-one e = done (joins-same ready (sym root-a ∙ e ∙ root_b))
 
   pub lifted-less : r ≢ q → at size r < at size q
       → JoinDone (length parent) (at parent) (at (set zs r q)) (at (set size q (at size r + at size q))) a b true
-  lifted-less d l = done (joins-less ready r q root-a root-b d l)
+  lifted-less d l = done (joins-less ready r q root-a root_b d l)
 
   pub lifted-else : r ≢ q → at size q ≤ at size r
       → JoinDone (length parent) (at parent) (at (set zs q r)) (at (set size r (at size r + at size q))) a b true
-  lifted-else d l = done (joins-else ready r q root-a root-b d l)
+  lifted-else d l = done (joins-else ready r q root-a root_b d l)

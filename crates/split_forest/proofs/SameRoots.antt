@@ -8,7 +8,7 @@ use mathlib.Core.List.{List}
 use lib.ListN.{length, length-set}
 use lib.Seq.{get_or-set_same, get_or-set_other}
 use Rattle.list_in_table.proofs.Laws.{either}
-use Rattle.split_forest.specs.Forest.{at, climb, rootOf, Tall, Forest, Wood, Lifted}
+use Rattle.split_forest.specs.Forest.{at, climb, root_of, Tall, Forest, Wood, Lifted}
 use Rattle.split_forest.proofs.Tallies.{members-same}
 use Rattle.split_forest.proofs.Climb.{climb-root, tall-root, tall-size, steps-root, root-top, root-lt, top-root}
 
@@ -18,10 +18,10 @@ record Shorter (p q : ℕ → ℕ) (k j : ℕ) : Type 0 where
   few : steps ≤ k
   same : climb q steps j ≡ climb p k j
 
-module _ {n : ℕ} {p z q : ℕ → ℕ} {i : ℕ} (F : Forest n p z) (il : i < n) (under : q i ≡ rootOf p i) (other : (j : ℕ) → j ≢ i → q j ≡ p j) where
+module _ {n : ℕ} {p z q : ℕ → ℕ} {i : ℕ} (F : Forest n p z) (il : i < n) (under : q i ≡ root_of p i) (other : (j : ℕ) → j ≢ i → q j ≡ p j) where
   -- the roots are the same places
   root-stays : (r : ℕ) → p r ≡ r → q r ≡ r
-  unfolding rootOf
+  unfolding root_of
   root-stays r e =
       either r i (λ w. ap q w ∙ under ∙ ap (climb p 12) (sym w) ∙ climb-root p 12 r e) (λ d. other r d ∙ e)
 
@@ -29,7 +29,7 @@ module _ {n : ℕ} {p z q : ℕ → ℕ} {i : ℕ} (F : Forest n p z) (il : i < 
   root-was r e =
       either r i
       (λ w.
-      let own : rootOf p i ≡ r = sym under ∙ ap q (sym w) ∙ e in
+      let own : root_of p i ≡ r = sym under ∙ ap q (sym w) ∙ e in
       ap p (sym own) ∙ root-top F i il ∙ own)
       (λ d. sym (other r d) ∙ e)
 
@@ -40,7 +40,7 @@ module _ {n : ℕ} {p z q : ℕ → ℕ} {i : ℕ} (F : Forest n p z) (il : i < 
   shorter (suc k) j l e =
       either j i
       (λ w.
-      record { steps = 1; few = omega arith; same = ap q w ∙ under ∙ ap (rootOf p) (sym w) ∙ sym (top-root F (suc k) j l e) })
+      record { steps = 1; few = omega arith; same = ap q w ∙ under ∙ ap (root_of p) (sym w) ∙ sym (top-root F (suc k) j l e) })
       (λ d.
       let s = shorter k (p j) (F.within j l) e in
       record { steps = suc s.steps; few = (let m = s.few in omega arith); same = rw (other j d) s.same })
@@ -48,7 +48,7 @@ module _ {n : ℕ} {p z q : ℕ → ℕ} {i : ℕ} (F : Forest n p z) (il : i < 
   walk : (j : ℕ) (l : j < n) → Shorter p q (F.tall j l).steps j
   walk j l = shorter (F.tall j l).steps j l (F.tall j l).top
 
-  still-tall : (j : ℕ) → j < n → Tall q z j × (rootOf q j ≡ rootOf p j)
+  still-tall : (j : ℕ) → j < n → Tall q z j × (root_of q j ≡ root_of p j)
   still-tall j l =
       let t = F.tall j l in
       let s = walk j l in
@@ -61,13 +61,13 @@ module _ {n : ℕ} {p z q : ℕ → ℕ} {i : ℕ} (F : Forest n p z) (il : i < 
       } in
       (t', tall-root t' (rw s.same (tall-size F j l)) ∙ s.same ∙ sym (steps-root F j l))
 
-  pub lift-roots : (j : ℕ) → j < n → rootOf q j ≡ rootOf p j
+  pub lift-roots : (j : ℕ) → j < n → root_of q j ≡ root_of p j
   lift-roots j l = (still-tall j l).1
 
   pub lift-forest : Forest n q z
   lift-forest =
       record {
-        n-small = F.n-small;
+        n_small = F.n_small;
         within = λ j l. either j i (λ w. rw w (rw under (root-lt F i il))) (λ d. rw (other j d) (F.within j l));
         tall = λ j l. (still-tall j l).0;
         counted = λ r l e. F.counted r l (root-was r e) ∙ sym (members-same r lift-roots);
@@ -75,8 +75,8 @@ module _ {n : ℕ} {p z q : ℕ → ℕ} {i : ℕ} (F : Forest n p z) (il : i < 
 
 -- the same of a forest in two lists
 module _ {parent size zs : List ℕ} {i r : ℕ} (W : Wood parent size) (il : i < length parent) (E : Lifted parent zs i r) where
-  under-root : at zs i ≡ rootOf (at parent) i
-  unfolding rootOf
+  under-root : at zs i ≡ root_of (at parent) i
+  unfolding root_of
   under-root = rw E.under (get_or-set_same parent i r 0 il ∙ E.found)
 
   others : (j : ℕ) → j ≢ i → at zs j ≡ at parent j
@@ -85,7 +85,7 @@ module _ {parent size zs : List ℕ} {i r : ℕ} (W : Wood parent size) (il : i 
   pub lifted-long : length zs ≡ length parent
   lifted-long = rw E.under (simp length-set)
 
-  pub lifted-roots : (j : ℕ) → j < length parent → rootOf (at zs) j ≡ rootOf (at parent) j
+  pub lifted-roots : (j : ℕ) → j < length parent → root_of (at zs) j ≡ root_of (at parent) j
   lifted-roots = lift-roots W.forest il under-root others
 
   pub lifted-wood : Wood zs size

@@ -1,9 +1,9 @@
 // Sets of places, each a tree with its root, joined smaller under larger.
 ghost use Rattle.std.specs.Prelude.{◌≡◌, List, [], ℕ, ◌≤◌, ◌<◌, length, set};
 ghost use Rattle.list_in_table.specs.Rules.{none, Is};
-ghost use Rattle.def_state.specs.Connected.{label, keepLabel};
+ghost use Rattle.def_state.specs.Connected.{label, keep_label};
 ghost use Rattle.split_forest.specs.Groups.{Groups};
-ghost use Rattle.split_forest.specs.Forest.{at, climb, rootOf, ForestStands, Wood, RootReady, Lifted, JoinReady, JoinDone, Led, NameReady};
+ghost use Rattle.split_forest.specs.Forest.{at, climb, root_of, ForestStands, Wood, RootReady, Lifted, JoinReady, JoinDone, Led, NameReady};
 
 use def_kinds::NONE;
 
@@ -112,7 +112,7 @@ pub fn join(parent: &mut [u32], size: &mut [u32], a: u32, b: u32) -> bool
 // The label of the largest group: of equals, the one with the earliest place.
 pub fn keep(parent: &[u32], size: &[u32]) -> u32
     requires { Wood parent.now size.now }
-    ensures { (ls : List (ℕ × ℕ)) → Groups ls (length parent.now) (rootOf (at parent.now)) → result ≡ keepLabel (label ls (length parent.now)) }
+    ensures { (ls : List (ℕ × ℕ)) → Groups ls (length parent.now) (root_of (at parent.now)) → result ≡ keep_label (label ls (length parent.now)) }
 {
     let n = parent.len();
     let mut best: u32 = 0;
@@ -163,7 +163,7 @@ fn lead(first: &mut [u32], r: u32, k: u32) -> u32
 // The labels that the forest gives. first is scratch: at a root, the first place of its tree.
 pub fn name(parent: &[u32], first: &mut [u32], labels: &mut [u32])
     requires { NameReady parent.now first.old labels.old }
-    ensures { (ls : List (ℕ × ℕ)) → Groups ls (length parent.now) (rootOf (at parent.now)) → labels.new ≡ label ls (length parent.now) }
+    ensures { (ls : List (ℕ × ℕ)) → Groups ls (length parent.now) (root_of (at parent.now)) → labels.new ≡ label ls (length parent.now) }
 {
     blank(first);
     let n = parent.len();

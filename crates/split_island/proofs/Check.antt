@@ -15,12 +15,12 @@ use Rattle.list_in_buffer.specs.Part.{Put}
 use Rattle.def_kinds.specs.declared.Sizes.{Sizes}
 use Rattle.def_kinds.specs.declared.Answer.TheVariants.{Done, Nothing, NoIsland}
 use Rattle.def_state.specs.Plain.{top}
-use Rattle.def_state.specs.World.{Island, World, Step, done, gives, islandAt, live}
-use Rattle.def_state.specs.Fields.{split-set, island-set}
+use Rattle.def_state.specs.World.{Island, World, Step, done, gives, island_at, live}
+use Rattle.def_state.specs.Fields.{split_set, island_set}
 use Rattle.def_state.specs.Connected.{components}
-use Rattle.def_state.specs.Split.{labelsOf, denial, checked, split, split-island-now, schedule-split, run-pending-split, denied, split-allowed}
-use Rattle.table_meaning.specs.Layout.{tables, headAt, headLong, rows_at, rowsLong, extents}
-use Rattle.table_meaning.specs.Decode.{flag, islandIn, worldOf}
+use Rattle.def_state.specs.Split.{labels_of, denial, checked, split, split_island_now, schedule_split, run_pending_split, denied, split_allowed}
+use Rattle.table_meaning.specs.Layout.{tables, head_at, head_span, rows_at, rows_span, extents}
+use Rattle.table_meaning.specs.Decode.{flag, island_in, world_of}
 use Rattle.table_meaning.specs.Sound.{Sound}
 use Rattle.table_meaning.specs.Does.{Does}
 use Rattle.table_meaning.proofs.Puts.{sized}
@@ -46,57 +46,57 @@ unfolding denial
 denial-some s h = rw (le-ltb top (s + 16) (omega arith))
 
 -- ---- checked
-abbrev check-as : ℕ → Island → Island
-check-as d a =
+abbrev check_as : ℕ → Island → Island
+check_as d a =
     record {
       bodies = a.bodies;
-      contact-links = a.contact-links;
-      joint-links = a.joint-links;
-      constraint-remove-count = 0;
-      split-denied-until = d;
+      contact_links = a.contact_links;
+      joint_links = a.joint_links;
+      constraint_remove_count = 0;
+      split_denied_until = d;
       sleeping = a.sleeping;
     }
 
 pub checked-steps : {Z : Sizes} {t t' : List ℕ} (i d : ℕ) → Sound Z t → Lives Z t i → d ≡ denial (get_or (tables Z t).head 7 0)
-    → Put (rows_at Z) (rowsLong Z) t t' (writes (tables Z t).rows ((3 * i, 0) ∷ (3 * i + 1, d) ∷ [])) → Steps Z (checking i) t t'
-unfolding checking checked worldOf
+    → Put (rows_at Z) (rows_span Z) t t' (writes (tables Z t).rows ((3 * i, 0) ∷ (3 * i + 1, d) ∷ [])) → Steps Z (checking i) t t'
+unfolding checking checked world_of
 checked-steps {Z} {t} {t'} i d S L q P =
     let T = tables Z t in
     let x = T.rows in
     let ws : List (ℕ × ℕ) = (3 * i, 0) ∷ (3 * i + 1, d) ∷ [] in
     let R = writes x ws in
     let K = sized Z t S.long in
-    let l : 3 * i + 2 < length x = (let k = K.rows-length in let g = S.good.islands-le in let u = L.in_use in omega arith) in
+    let l : 3 * i + 2 < length x = (let k = K.rows_length in let g = S.good.islands_le in let u = L.in_use in omega arith) in
     let o : (j : ℕ) → Aside i j → get_or R j 0 ≡ get_or x j 0 = λ j a. miss x ws j (⊎_elim (λ (p : j < 3 * i). omega arith) (λ (p : 3 * i + 3 ≤ j). omega arith) a) in
     let o2 : get_or R (3 * i + 2) 0 ≡ get_or x (3 * i + 2) 0 = miss x ws (3 * i + 2) (omega arith) in
-    let z : get_or x (3 * i + 2) 0 ≤ 1 = ⊎_elim (λ f. f.sleeping-flag) (λ f. (let e = f.not-sleeping in omega arith)) (S.good.island i L.in_use) in
-    steps-as (λ w. done (island-set w i (check-as d (islandAt w i)))) (checking i)
-    (ap (λ (k : ℕ). done (island-set (worldOf Z t) i (check-as k (islandAt (worldOf Z t) i)))) q)
-    (row-steps i R (check-as d) S L.in_use L.some o (rw o2 z)
+    let z : get_or x (3 * i + 2) 0 ≤ 1 = ⊎_elim (λ f. f.sleeping_flag) (λ f. (let e = f.not_sleeping in omega arith)) (S.good.island i L.in_use) in
+    steps-as (λ w. done (island_set w i (check_as d (island_at w i)))) (checking i)
+    (ap (λ (k : ℕ). done (island_set (world_of Z t) i (check_as k (island_at (world_of Z t) i)))) q)
+    (row-steps i R (check_as d) S L.in_use L.some o (rw o2 z)
     (island-is refl refl refl (hit x [] (3 * i) 0 ((3 * i + 1, d) ∷ []) (omega arith) (omega arith)) (hit x ((3 * i, 0) ∷ []) (3 * i + 1) d [] (omega arith) (omega arith)) (ap flag o2)) P)
 
 -- ---- split
-pub split-whole : {Z : Sizes} {t t' : List ℕ} (i c : ℕ) → c ≡ components (labelsOf (worldOf Z t) i) → c ≤ 1 → Steps Z (checking i) t t' → Steps Z (splitting i) t t'
+pub split-whole : {Z : Sizes} {t t' : List ℕ} (i c : ℕ) → c ≡ components (labels_of (world_of Z t) i) → c ≤ 1 → Steps Z (checking i) t t' → Steps Z (splitting i) t t'
 unfolding checking splitting split
-split-whole {Z} {t} i c q h D = steps-as (checking i) (splitting i) (let a = components (labelsOf (worldOf Z t) i) in rw (le-leb a 1 (omega arith))) D
+split-whole {Z} {t} i c q h D = steps-as (checking i) (splitting i) (let a = components (labels_of (world_of Z t) i) in rw (le-leb a 1 (omega arith))) D
 
-pub split_parts : {Z : Sizes} {t t1 t2 : List ℕ} (i c : ℕ) → c ≡ components (labelsOf (worldOf Z t) i) → 1 < c → Parts Z i t t1 → Steps Z (checking i) t1 t2 → Steps Z (splitting i) t t2
+pub split_parts : {Z : Sizes} {t t1 t2 : List ℕ} (i c : ℕ) → c ≡ components (labels_of (world_of Z t) i) → 1 < c → Parts Z i t t1 → Steps Z (checking i) t1 t2 → Steps Z (splitting i) t t2
 unfolding checking splitting split parting
 split_parts {Z} {t} i c q h A D =
     record {
       does =
-          does-as (λ w. checking i (parting i w).after) (splitting i) (let a = components (labelsOf (worldOf Z t) i) in rw (lt-leb a 1 (omega arith)))
+          does-as (λ w. checking i (parting i w).after) (splitting i) (let a = components (labels_of (world_of Z t) i) in rw (lt-leb a 1 (omega arith)))
           (does-then (parting i) (checking i) D.larger A.steps.does D.does);
       larger = larger-then A.steps.larger D.larger;
     }
 
 -- ---- a live island, by the words
 module _ {Z : Sizes} {t : List ℕ} (i : ℕ) (S : Sound Z t) where
-  pub split-none : live (worldOf Z t) i ≡ false → Does Z (split-island-now i) t NoIsland t
-  unfolding split-island-now
-  split-none d = refused (split-island-now i) NoIsland S (rw d)
+  pub split-none : live (world_of Z t) i ≡ false → Does Z (split_island_now i) t NoIsland t
+  unfolding split_island_now
+  split-none d = refused (split_island_now i) NoIsland S (rw d)
 
   module _ (L : Lives Z t i) where
-    pub split_done : {t' : List ℕ} → Steps Z (splitting i) t t' → Does Z (split-island-now i) t Done t'
-    unfolding split-island-now splitting
-    split_done D = does-as (splitting i) (split-island-now i) (sym (rw (lives-true i S L))) D.does
+    pub split_done : {t' : List ℕ} → Steps Z (splitting i) t t' → Does Z (split_island_now i) t Done t'
+    unfolding split_island_now splitting
+    split_done D = does-as (splitting i) (split_island_now i) (sym (rw (lives-true i S L))) D.does

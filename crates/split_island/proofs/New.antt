@@ -12,35 +12,35 @@ use borrow.Author.Tests.{eq-eqb, ne_eqb}
 use Rattle.def_kinds.specs.Choice.{pick}
 use Rattle.list_in_table.proofs.Laws.{either}
 use Rattle.def_state.specs.Plain.{top, empty, drop_last}
-use Rattle.def_state.specs.World.{Island, noIsland, World, islandAt}
-use Rattle.def_state.specs.Fields.{islands-set, free-set, island-set}
-use Rattle.def_state.specs.Membership.{newNumber, alloc-island}
+use Rattle.def_state.specs.World.{Island, absent_island, World, island_at}
+use Rattle.def_state.specs.Fields.{islands_set, free_set, island_set}
+use Rattle.def_state.specs.Membership.{new_number, alloc_island}
 use Rattle.def_state.specs.Connected.{tally, components}
-use Rattle.def_state.specs.Split.{leads, new-island, newIslands, newNumbers}
+use Rattle.def_state.specs.Split.{leads, new_island, new_islands, new_numbers}
 use Rattle.split_move.specs.Shift.{reserved}
 use Rattle.split_forest.proofs.Tallies.{tally-add, tally-one}
 
-pub one_more : (k : ℕ) (z : Bool) (w : World) → newIslands (suc k) z w ≡ reserved z (newIslands k z w)
-unfolding newIslands reserved
+pub one_more : (k : ℕ) (z : Bool) (w : World) → new_islands (suc k) z w ≡ reserved z (new_islands k z w)
+unfolding new_islands reserved
 one_more zero z w = refl
 one_more (suc k) z w = one_more k z (reserved z w)
 
 -- the numbers, in order
-pub number_at : (k : ℕ) (z : Bool) (w : World) (j : ℕ) → j < k → get_or (newNumbers k z w) j top ≡ newNumber (newIslands j z w)
-unfolding newNumbers newIslands
+pub number_at : (k : ℕ) (z : Bool) (w : World) (j : ℕ) → j < k → get_or (new_numbers k z w) j top ≡ new_number (new_islands j z w)
+unfolding new_numbers new_islands
 number_at zero z w j h = absurd (omega arith)
 number_at (suc k) z w zero h = refl
-number_at (suc k) z w (suc j) h = number_at k z (island-set (alloc-island w) (newNumber w) (new-island z)) j (omega arith)
+number_at (suc k) z w (suc j) h = number_at k z (island_set (alloc_island w) (new_number w) (new_island z)) j (omega arith)
 
 -- another island stays
-pub reserved-same : (z : Bool) (w : World) (j : ℕ) → j < length w.islands → j ≢ newNumber w → islandAt (reserved z w) j ≡ islandAt w j
-unfolding reserved island-set alloc-island
-reserved-same z w j l d = cases (empty w.free-islands)
+pub reserved-same : (z : Bool) (w : World) (j : ℕ) → j < length w.islands → j ≢ new_number w → island_at (reserved z w) j ≡ island_at w j
+unfolding reserved island_set alloc_island
+reserved-same z w j l d = cases (empty w.free_islands)
   where
     cases : (b : Bool)
-        → get_or (set (pick b (islands-set w (w.islands ++ (noIsland ∷ []))) (free-set w (drop_last w.free-islands))).islands (newNumber w) (new-island z)) j noIsland ≡ get_or w.islands j noIsland
-    cases true = get_or-set_other (w.islands ++ (noIsland ∷ [])) (newNumber w) j (new-island z) noIsland d ∙ get_or-append w.islands (noIsland ∷ []) noIsland j l
-    cases false = get_or-set_other w.islands (newNumber w) j (new-island z) noIsland d
+        → get_or (set (pick b (islands_set w (w.islands ++ (absent_island ∷ []))) (free_set w (drop_last w.free_islands))).islands (new_number w) (new_island z)) j absent_island ≡ get_or w.islands j absent_island
+    cases true = get_or-set_other (w.islands ++ (absent_island ∷ [])) (new_number w) j (new_island z) absent_island d ∙ get_or-append w.islands (absent_island ∷ []) absent_island j l
+    cases false = get_or-set_other w.islands (new_number w) j (new_island z) absent_island d
 
 -- ---- which places lead
 module _ (L : List ℕ) (keep : ℕ) where

@@ -16,7 +16,7 @@ use Rattle.list_in_table.proofs.Order.{At, list_at}
 use Rattle.list_in_table.proofs.Pigeon.{pigeon}
 use Rattle.def_kinds.specs.declared.Sizes.{Sizes}
 use Rattle.def_state.specs.Plain.{has, place_of}
-use Rattle.table_meaning.specs.Layout.{Tables, Extents, members-in, freed-in}
+use Rattle.table_meaning.specs.Layout.{Tables, Extents, members_in, freed_in}
 use Rattle.core_laws.specs.Loose.{OpenAt, Loose}
 use Rattle.core_laws.proofs.Names.{has-yes}
 
@@ -45,14 +45,14 @@ take-full (suc p) [] h = absurd (omega arith)
 take-full (suc p) (x ∷ xs) h = ap suc (take-full p xs (omega arith))
 
 -- no number is free, and the place p leads a component that has none yet
-module _ (Z : Sizes) (X : Extents) (T : Tables) (G : Loose Z X T) (base keep p : ℕ) (goals : List ℕ) (none_free : (freed-in Z T).count 0 ≡ 0) (bl : base < X.islands)
-    (pl : p < (members-in Z T).count base) (kl : keep < (members-in Z T).count base) (pk : p ≢ keep) (gl : p ≤ length goals) (gk : keep < p → get_or goals keep 0 ≡ base)
-    (gets : (i : ℕ) → i < X.islands → (freed-in Z T).home i ≡ none → (members-in Z T).count i ≡ 0 → has (take p goals) i ≡ true) where
+module _ (Z : Sizes) (X : Extents) (T : Tables) (G : Loose Z X T) (base keep p : ℕ) (goals : List ℕ) (none_free : (freed_in Z T).count 0 ≡ 0) (bl : base < X.islands)
+    (pl : p < (members_in Z T).count base) (kl : keep < (members_in Z T).count base) (pk : p ≢ keep) (gl : p ≤ length goals) (gk : keep < p → get_or goals keep 0 ≡ base)
+    (gets : (i : ℕ) → i < X.islands → (freed_in Z T).home i ≡ none → (members_in Z T).count i ≡ 0 → has (take p goals) i ≡ true) where
   abbrev B : View
-  B = members-in Z T
+  B = members_in Z T
 
-  abbrev R : Rules X.slots X.islands (members-in Z T)
-  R = G.members-wf.rules
+  abbrev R : Rules X.slots X.islands (members_in Z T)
+  R = G.members_wf.rules
 
   abbrev m : ℕ
   m = X.islands
@@ -67,28 +67,28 @@ module _ (Z : Sizes) (X : Extents) (T : Tables) (G : Loose Z X T) (base keep p :
   abbrev spot : ℕ → ℕ
   spot i = pick (eqb i m) p (pick (eqb i base) keep (place_of xs i))
 
-  abbrev inBase : ℕ → Bool
-  inBase i = eqb i m || (eqb i base || has xs i)
+  abbrev in_base : ℕ → Bool
+  in_base i = eqb i m || (eqb i base || has xs i)
 
   abbrev f : ℕ → ℕ
-  f i = pick (inBase i) (slot_at (spot i)) (B.last i)
+  f i = pick (in_base i) (slot_at (spot i)) (B.last i)
 
   -- the number that a spot stands for
   abbrev back : ℕ → ℕ
   back q = pick (eqb q p) m (pick (eqb q keep) base (get_or goals q 0))
 
-  open-all : (i : ℕ) → i < m → (freed-in Z T).home i ≡ none
+  open-all : (i : ℕ) → i < m → (freed_in Z T).home i ≡ none
   open-all i l =
-      ⊎_elim (λ (x : OpenAt Z T i). x.not-freed)
+      ⊎_elim (λ (x : OpenAt Z T i). x.not_freed)
       (λ x.
       absurd
-      (let h = (held_in G.freed-wf.rules i 0 l (omega arith) x.in_stack).place-lt in
-      let e : (freed-in Z T).count ((freed-in Z T).home i) ≡ (freed-in Z T).count 0 = ap (freed-in Z T).count x.in_stack in
+      (let h = (held_in G.freed_wf.rules i 0 l (omega arith) x.in_stack).place_lt in
+      let e : (freed_in Z T).count ((freed_in Z T).home i) ≡ (freed_in Z T).count 0 = ap (freed_in Z T).count x.in_stack in
       omega arith))
       (G.island i l)
 
   -- ---- a number that has its spot in base
-  module _ (i : ℕ) (y : inBase i ≡ true) where
+  module _ (i : ℕ) (y : in_base i ≡ true) where
     spot_is : (spot i < B.count base) × (back (spot i) ≡ i)
     spot_is =
         either i m
@@ -110,7 +110,7 @@ module _ (Z : Sizes) (X : Extents) (T : Tables) (G : Loose Z X T) (base keep p :
     at-spot = rw y (list_at R base bl (spot i) spot_is.0)
 
   -- ---- one that has not is live
-  module _ (i : ℕ) (il : i < m + 1) (y : inBase i ≡ false) where
+  module _ (i : ℕ) (il : i < m + 1) (y : in_base i ≡ false) where
     not_new : i ≢ m
     not_new e = false≢true (sym y ∙ rw (eq-eqb i m e))
 
@@ -127,34 +127,34 @@ module _ (Z : Sizes) (X : Extents) (T : Tables) (G : Loose Z X T) (base keep p :
     last-of = full R i (let d = not_new in omega arith) lives
 
     at_last : (f i < X.slots) × (B.home (f i) ≡ i)
-    at_last = rw y (last-of.last-lt, last-of.last-home)
+    at_last = rw y (last-of.last_lt, last-of.last_home)
 
   within : (i : ℕ) → i < m + 1 → f i < X.slots
-  within i l = ⊎_elim (λ y. (at-spot i y).lt) (λ y. (at_last i l y).0) (two-bools (inBase i))
+  within i l = ⊎_elim (λ y. (at-spot i y).lt) (λ y. (at_last i l y).0) (two-bools (in_base i))
 
   differ : (i j : ℕ) → i < m + 1 → j < m + 1 → f i ≡ f j → i ≡ j
   differ i j il jl e =
       ⊎_elim
-      (λ (y : inBase i ≡ true).
+      (λ (y : in_base i ≡ true).
       ⊎_elim
-      (λ (x : inBase j ≡ true).
+      (λ (x : in_base j ≡ true).
       let q : spot i ≡ spot j = sym (at-spot i y).place_is ∙ ap B.place e ∙ (at-spot j x).place_is in
       sym (spot_is i y).1 ∙ ap back q ∙ (spot_is j x).1)
-      (λ (x : inBase j ≡ false). absurd (not-base j jl x (sym (at_last j jl x).1 ∙ ap B.home (sym e) ∙ (at-spot i y).home-is)))
-      (two-bools (inBase j)))
-      (λ (y : inBase i ≡ false).
+      (λ (x : in_base j ≡ false). absurd (not-base j jl x (sym (at_last j jl x).1 ∙ ap B.home (sym e) ∙ (at-spot i y).home_is)))
+      (two-bools (in_base j)))
+      (λ (y : in_base i ≡ false).
       ⊎_elim
-      (λ (x : inBase j ≡ true). absurd (not-base i il y (sym (at_last i il y).1 ∙ ap B.home e ∙ (at-spot j x).home-is)))
-      (λ (x : inBase j ≡ false). sym (at_last i il y).1 ∙ ap B.home e ∙ (at_last j jl x).1)
-      (two-bools (inBase j)))
-      (two-bools (inBase i))
+      (λ (x : in_base j ≡ true). absurd (not-base i il y (sym (at_last i il y).1 ∙ ap B.home e ∙ (at-spot j x).home_is)))
+      (λ (x : in_base j ≡ false). sym (at_last i il y).1 ∙ ap B.home e ∙ (at_last j jl x).1)
+      (two-bools (in_base j)))
+      (two-bools (in_base i))
 
   pub room : (m < Z.islands) × (m < none)
   room =
       let r = pigeon X.slots (m + 1) f within differ in
-      let a = G.slots-le in
+      let a = G.slots_le in
       let b = G.enough in
-      let c = R.n-small in
+      let c = R.n_small in
       (omega arith, omega arith)
 
 pub taken-has : (p i q : ℕ) (goals : List ℕ) → p ≤ length goals → q < p → get_or goals q 0 ≡ i → has (take p goals) i ≡ true

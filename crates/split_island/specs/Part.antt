@@ -2,10 +2,10 @@
 use Rattle.std.specs.Prelude.{◌≡◌, List, ℕ, ◌≤◌, length}
 use Rattle.def_kinds.specs.declared.Sizes.{Sizes}
 use Rattle.def_state.specs.World.{World, Step, done}
-use Rattle.def_state.specs.Connected.{keepLabel}
-use Rattle.def_state.specs.Split.{linksOf, labelsOf, parted, checked, split}
-use Rattle.table_meaning.specs.Layout.{tables, members-in}
-use Rattle.table_meaning.specs.Decode.{worldOf}
+use Rattle.def_state.specs.Connected.{keep_label}
+use Rattle.def_state.specs.Split.{links_of, labels_of, parted, checked, split}
+use Rattle.table_meaning.specs.Layout.{tables, members_in}
+use Rattle.table_meaning.specs.Decode.{world_of}
 use Rattle.table_meaning.specs.Sound.{Sound}
 use Rattle.core_laws.specs.Steps.{Steps}
 use Rattle.core_laws.specs.Lives.{Lives}
@@ -24,10 +24,10 @@ splitting i w = done (split i w)
 pub record PartReady (Z : Sizes) (base keep : ℕ) (L goals t : List ℕ) : Type 0 where
   pub sound : Sound Z t
   pub lives : Lives Z t base
-  pub labels-are : L ≡ labelsOf (worldOf Z t) base
-  pub keep-is : keep ≡ keepLabel L
-  pub inside : Inside (linksOf (worldOf Z t) base) (length L)
-  pub goals-long : length goals ≡ length L
+  pub labels_are : L ≡ labels_of (world_of Z t) base
+  pub keep_is : keep ≡ keep_label L
+  pub inside : Inside (links_of (world_of Z t) base) (length L)
+  pub goals_long : length goals ≡ length L
 
 pub record Parts (Z : Sizes) (base : ℕ) (t t' : List ℕ) : Type 0 where
   pub steps : Steps Z (parting base) t t'
@@ -38,21 +38,21 @@ pub record SplitReady (Z : Sizes) (i : ℕ) (t parent size first labels : List �
   pub sound : Sound Z t
   pub lives : Lives Z t i
   pub few : Z.slots ≤ 4096
-  pub parent-long : length parent ≡ (members-in Z (tables Z t)).count i
-  pub size-long : length size ≡ (members-in Z (tables Z t)).count i
-  pub first-long : length first ≡ (members-in Z (tables Z t)).count i
-  pub labels-long : length labels ≡ (members-in Z (tables Z t)).count i
+  pub parent_long : length parent ≡ (members_in Z (tables Z t)).count i
+  pub size_long : length size ≡ (members_in Z (tables Z t)).count i
+  pub first_long : length first ≡ (members_in Z (tables Z t)).count i
+  pub labels_long : length labels ≡ (members_in Z (tables Z t)).count i
 
 -- a live island of n bodies, of which there are at most 4096
 pub record Splittable (Z : Sizes) (i n : ℕ) (t : List ℕ) : Type 0 where
   pub sound : Sound Z t
   pub lives : Lives Z t i
   pub few : Z.slots ≤ 4096
-  pub bodies : n ≡ (members-in Z (tables Z t)).count i
+  pub bodies : n ≡ (members_in Z (tables Z t)).count i
 
 -- four slices of at least n words
 pub record Scratch (n : ℕ) (parent size first labels : List ℕ) : Type 0 where
-  pub parent-long : n ≤ length parent
-  pub size-long : n ≤ length size
-  pub first-long : n ≤ length first
-  pub labels-long : n ≤ length labels
+  pub parent_long : n ≤ length parent
+  pub size_long : n ≤ length size
+  pub first_long : n ≤ length first
+  pub labels_long : n ≤ length labels

@@ -1,7 +1,7 @@
 // The split of an island, on sound tables. The waiting split, and who may bid, is split_pending.
 ghost use Rattle.std.specs.Prelude.{◌≡◌, ◌≤◌, length};
-ghost use Rattle.def_state.specs.Split.{denial as denialOf, split-island-now};
-ghost use Rattle.table_meaning.specs.Decode.{worldOf};
+ghost use Rattle.def_state.specs.Split.{denial as denialOf, split_island_now};
+ghost use Rattle.table_meaning.specs.Decode.{world_of};
 ghost use Rattle.table_meaning.specs.Sound.{Sound};
 ghost use Rattle.table_meaning.specs.Does.{Does};
 ghost use Rattle.core_laws.specs.Steps.{Steps};
@@ -180,7 +180,7 @@ pub fn split_live(t: &mut [u32], z: Sizes, i: u32, n: usize)
 // split_island_now: a number not live is 6.
 pub fn split_on(t: &mut [u32], z: Sizes, i: u32) -> Answer
     requires { Sound z t.old × (z.slots ≤ 4096) }
-    ensures { Does z (split-island-now i) t.old result t.new }
+    ensures { Does z (split_island_now i) t.old result t.new }
 {
     if !core_live::is_live(t, z, i) {
         return Answer::NoIsland;

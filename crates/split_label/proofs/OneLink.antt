@@ -11,42 +11,42 @@ use Rattle.def_kinds.specs.Choice.{pick}
 use Rattle.def_kinds.specs.declared.Sizes.{Sizes}
 use Rattle.def_state.specs.World.{Handle, World}
 use Rattle.def_state.specs.Split.{node_of}
-use Rattle.table_meaning.specs.Decode.{handleAt, worldOf}
+use Rattle.table_meaning.specs.Decode.{handle_at, world_of}
 use Rattle.table_meaning.specs.Sound.{Sound}
 use Rattle.core_laws.specs.Steps.{handle}
 use Rattle.core_laws.specs.Lives.{Lives}
 use Rattle.split_forest.specs.Forest.{at, JoinDone, JoinReady}
-use Rattle.split_label.specs.Ends.{pair_at, pairEnds, Goes, Over}
+use Rattle.split_label.specs.Ends.{pair_at, pair_ends, Goes, Over}
 use Rattle.split_label.proofs.Nodes.{node-lt}
 use Rattle.split_label.proofs.Forests.{goes-past, goes-join}
 
 module _ {Z : Sizes} {t : List ℕ} {i : ℕ} {parent size : List ℕ} (O : Over Z t i parent size) (x : List ℕ) (j : ℕ) where
   abbrev w : World
-  w = worldOf Z t
+  w = world_of Z t
 
   -- the nodes of the two handles, by the words that were read
-  pub first-node : {a s g : ℕ} → a ≡ node_of w i (handle s g) → s ≡ get_or x j 0 → g ≡ get_or x (j + 1) 0 → a ≡ node_of w i (handleAt x j)
+  pub first-node : {a s g : ℕ} → a ≡ node_of w i (handle s g) → s ≡ get_or x j 0 → g ≡ get_or x (j + 1) 0 → a ≡ node_of w i (handle_at x j)
   first-node e p q = e ∙ rw (p, q)
 
-  pub second-node : {a s g : ℕ} → a ≡ node_of w i (handle s g) → s ≡ get_or x (j + 2) 0 → g ≡ get_or x (j + 3) 0 → a ≡ node_of w i (handleAt x (j + 2))
+  pub second-node : {a s g : ℕ} → a ≡ node_of w i (handle s g) → s ≡ get_or x (j + 2) 0 → g ≡ get_or x (j + 3) 0 → a ≡ node_of w i (handle_at x (j + 2))
   second-node e p q = let k : j + 3 ≡ j + 2 + 1 = omega arith in e ∙ rw (p, q, k)
 
   -- an end that is no member
-  pub link-past : (node_of w i (handleAt x j) ≡ none) ⊎ (node_of w i (handleAt x (j + 2)) ≡ none)
-      → Goes (length parent) (at parent) (at parent) (at size) (pairEnds (worldOf Z t) i (pair_at x j ∷ [])) (pick false 1 0)
-  link-past e = goes-past w i (handleAt x j) (handleAt x (j + 2)) e O.wood.forest
+  pub link-past : (node_of w i (handle_at x j) ≡ none) ⊎ (node_of w i (handle_at x (j + 2)) ≡ none)
+      → Goes (length parent) (at parent) (at parent) (at size) (pair_ends (world_of Z t) i (pair_at x j ∷ [])) (pick false 1 0)
+  link-past e = goes-past w i (handle_at x j) (handle_at x (j + 2)) e O.wood.forest
 
   -- both are members, and the two places were joined
-  module _ (a b : ℕ) (p : a ≡ node_of w i (handleAt x j)) (q : b ≡ node_of w i (handleAt x (j + 2))) (c : a ≢ none) (d : b ≢ none) where
-    place-lt : (h : Handle) (k : ℕ) → k ≡ node_of w i h → k ≢ none → k < length parent
-    place-lt h k e o =
+  module _ (a b : ℕ) (p : a ≡ node_of w i (handle_at x j)) (q : b ≡ node_of w i (handle_at x (j + 2))) (c : a ≢ none) (d : b ≢ none) where
+    place_lt : (h : Handle) (k : ℕ) → k ≡ node_of w i h → k ≢ none → k < length parent
+    place_lt h k e o =
         let l = node-lt Z t i h.slot h.generation O.sound O.lives.in_use (λ z. o (e ∙ z)) in
         let m = O.long in
         omega arith
 
     pub link-ready : JoinReady parent size a b
-    link-ready = record { wood = O.wood; a_lt = place-lt (handleAt x j) a p c; b_lt = place-lt (handleAt x (j + 2)) b q d }
+    link-ready = record { wood = O.wood; a_lt = place_lt (handle_at x j) a p c; b_lt = place_lt (handle_at x (j + 2)) b q d }
 
     pub link-joins : (r : Bool) {f g : ℕ → ℕ} → JoinDone (length parent) (at parent) f g a b r
-        → Goes (length parent) (at parent) f g (pairEnds (worldOf Z t) i (pair_at x j ∷ [])) (pick r 1 0)
-    link-joins r J = goes-join w i (handleAt x j) (handleAt x (j + 2)) a b r (sym p) (sym q) c d link-ready.a_lt link-ready.b_lt J
+        → Goes (length parent) (at parent) f g (pair_ends (world_of Z t) i (pair_at x j ∷ [])) (pick r 1 0)
+    link-joins r J = goes-join w i (handle_at x j) (handle_at x (j + 2)) a b r (sym p) (sym q) c d link-ready.a_lt link-ready.b_lt J

@@ -1,10 +1,10 @@
 -- What label_island asks, and what it gives.
 use Rattle.std.specs.Prelude.{◌≡◌, List, ℕ, ◌≤◌, length}
 use Rattle.def_kinds.specs.declared.Sizes.{Sizes}
-use Rattle.def_state.specs.Connected.{components, keepLabel}
-use Rattle.def_state.specs.Split.{linksOf, labelsOf}
-use Rattle.table_meaning.specs.Layout.{tables, members-in}
-use Rattle.table_meaning.specs.Decode.{worldOf}
+use Rattle.def_state.specs.Connected.{components, keep_label}
+use Rattle.def_state.specs.Split.{links_of, labels_of}
+use Rattle.table_meaning.specs.Layout.{tables, members_in}
+use Rattle.table_meaning.specs.Decode.{world_of}
 use Rattle.table_meaning.specs.Sound.{Sound}
 use Rattle.core_laws.specs.Lives.{Lives}
 use Rattle.split_forest.specs.Groups.{Inside}
@@ -15,14 +15,14 @@ pub record Ready (Z : Sizes) (t : List ℕ) (i : ℕ) (parent size first labels 
   pub sound : Sound Z t
   pub lives : Lives Z t i
   pub few : Z.slots ≤ 4096
-  pub parent-long : length parent ≡ (members-in Z (tables Z t)).count i
-  pub size-long : length size ≡ (members-in Z (tables Z t)).count i
-  pub first-long : length first ≡ (members-in Z (tables Z t)).count i
-  pub labels-long : length labels ≡ (members-in Z (tables Z t)).count i
+  pub parent_long : length parent ≡ (members_in Z (tables Z t)).count i
+  pub size_long : length size ≡ (members_in Z (tables Z t)).count i
+  pub first_long : length first ≡ (members_in Z (tables Z t)).count i
+  pub labels_long : length labels ≡ (members_in Z (tables Z t)).count i
 
 pub record Labelled (Z : Sizes) (t : List ℕ) (i : ℕ) (labels : List ℕ) (r : Shape) : Type 0 where
-  pub labels-are : labels ≡ labelsOf (worldOf Z t) i
-  pub components-are : r.components ≡ components (labelsOf (worldOf Z t) i)
-  pub keep-is : r.keep ≡ keepLabel (labelsOf (worldOf Z t) i)
+  pub labels_are : labels ≡ labels_of (world_of Z t) i
+  pub components_are : r.components ≡ components (labels_of (world_of Z t) i)
+  pub keep_is : r.keep ≡ keep_label (labels_of (world_of Z t) i)
   -- a link's ends are places of the island's bodies
-  pub inside : Inside (linksOf (worldOf Z t) i) (length labels)
+  pub inside : Inside (links_of (world_of Z t) i) (length labels)

@@ -2,12 +2,12 @@
 ghost use Rattle.std.specs.Prelude.{◌≡◌, [], ◌∷◌, ℕ, ◌+◌, ◌≤◌, ◌<◌, length};
 ghost use Rattle.def_kinds.specs.Choice.{pick};
 ghost use Rattle.def_state.specs.Split.{node_of};
-ghost use Rattle.table_meaning.specs.Layout.{tables, extents, table_of, table_at, tableLong, chain-in};
-ghost use Rattle.table_meaning.specs.Decode.{worldOf};
+ghost use Rattle.table_meaning.specs.Layout.{tables, extents, table_of, table_at, table_span, chain_in};
+ghost use Rattle.table_meaning.specs.Decode.{world_of};
 ghost use Rattle.table_meaning.specs.Sound.{Sound};
 ghost use Rattle.core_laws.specs.Steps.{handle};
 ghost use Rattle.split_forest.specs.Forest.{at};
-ghost use Rattle.split_label.specs.Ends.{pair_at, pairsIn, pairEnds, Goes, Over, Walks};
+ghost use Rattle.split_label.specs.Ends.{pair_at, pairs_in, pair_ends, Goes, Over, Walks};
 ghost use Rattle.split_label.specs.Labelled.{Ready, Labelled};
 
 use def_kinds::{NONE, Sizes};
@@ -23,7 +23,7 @@ pub struct Shape {
 // The place of a handle's body in the island i: NONE where it is no member of i.
 fn node_of(t: &[u32], z: Sizes, i: u32, slot: u32, generation: u32) -> u32
     requires { Sound z t.now × (i < (extents (tables z t.now)).islands) }
-    ensures { result ≡ node_of (worldOf z t.now) i (handle slot generation) }
+    ensures { result ≡ node_of (world_of z t.now) i (handle slot generation) }
 {
     split_move::node_at(t, z, i, slot, generation)
 }
@@ -39,8 +39,8 @@ fn join_link(
     parent: &mut [u32],
     size: &mut [u32],
 ) -> bool
-    requires { Over z t.now i parent.old size.old × (from ≡ table_at z w) × (j + 4 ≤ tableLong z w) }
-    ensures { Goes (length parent.old) (at parent.old) (at parent.new) (at size.new) (pairEnds (worldOf z t.now) i (pair_at (table_of w (tables z t.now)) j ∷ [])) (pick result 1 0) }
+    requires { Over z t.now i parent.old size.old × (from ≡ table_at z w) × (j + 4 ≤ table_span z w) }
+    ensures { Goes (length parent.old) (at parent.old) (at parent.new) (at size.new) (pair_ends (world_of z t.now) i (pair_at (table_of w (tables z t.now)) j ∷ [])) (pick result 1 0) }
 {
     let s1 = table_words::get_from(t, z, w, from, j);
     let g1 = table_words::get_from(t, z, w, from, j + word::GENERATION1);
@@ -70,7 +70,7 @@ fn join_links(
     size: &mut [u32],
 ) -> u32
     requires { Over z t.now i parent.old size.old × Walks z t.now k w a b i }
-    ensures { Goes (length parent.old) (at parent.old) (at parent.new) (at size.new) (pairEnds (worldOf z t.now) i (pairsIn (chain-in z k (tables z t.now)) (table_of w (tables z t.now)) a b i)) result }
+    ensures { Goes (length parent.old) (at parent.old) (at parent.new) (at size.new) (pair_ends (world_of z t.now) i (pairs_in (chain_in z k (tables z t.now)) (table_of w (tables z t.now)) a b i)) result }
 {
     let chain = table_words::table_at(z, k);
     let from = table_words::table_at(z, w);

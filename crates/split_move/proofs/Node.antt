@@ -15,16 +15,16 @@ use Rattle.list_in_table.proofs.Laws.{either, held_in}
 use Rattle.list_in_table.proofs.Same.{below}
 use Rattle.def_kinds.specs.declared.Sizes.{Sizes}
 use Rattle.def_state.specs.Plain.{top, place_of}
-use Rattle.def_state.specs.World.{Handle, Island, World, islandAt, named, islandOf, body-island}
+use Rattle.def_state.specs.World.{Handle, Island, World, island_at, named, island_of, body_island}
 use Rattle.def_state.specs.Split.{node_of}
-use Rattle.table_meaning.specs.Layout.{Tables, tables, Extents, extents, members-in}
-use Rattle.table_meaning.specs.Decode.{worldOf, decode}
+use Rattle.table_meaning.specs.Layout.{Tables, tables, Extents, extents, members_in}
+use Rattle.table_meaning.specs.Decode.{world_of, decode}
 use Rattle.table_meaning.specs.Sound.{Sound}
 use Rattle.core_laws.specs.Steps.{handle}
 use Rattle.core_laws.specs.Loose.{BodiesStay}
 use Rattle.core_laws.specs.Drops.{Stays}
 use Rattle.core_laws.proofs.Names.{island-at, named-absent, named-far, named-at, island-of, place-of}
-use Rattle.split_move.specs.Shift.{nodeAt}
+use Rattle.split_move.specs.Shift.{node_at}
 
 -- the words of an element
 pub home-word : (x : List ℕ) (z e : ℕ) → get_or x (4 * e) 0 ≡ (view x 0 z).home e
@@ -37,32 +37,32 @@ pub prev-word : (x : List ℕ) (z e : ℕ) → get_or x (4 * e + 2) 0 ≡ (view 
 prev-word x z e = let q : 4 * e + 2 ≡ 0 + 4 * e + 2 = omega arith in ap (λ (k : ℕ). get_or x k 0) q
 
 module _ (Z : Sizes) (T : Tables) (i s g : ℕ) where
-  pub node-far : (extents T).slots ≤ s → top ≡ nodeAt Z T i (handle s g)
-  unfolding nodeAt
+  pub node-far : (extents T).slots ≤ s → top ≡ node_at Z T i (handle s g)
+  unfolding node_at
   node-far h = rw (le-ltb s (extents T).slots h)
 
   module _ (l : s < (extents T).slots) where
-    pub node-absent : g ≡ top → top ≡ nodeAt Z T i (handle s g)
-    unfolding nodeAt
+    pub node-absent : g ≡ top → top ≡ node_at Z T i (handle s g)
+    unfolding node_at
     node-absent e = rw (lt-ltb s (extents T).slots l, eq-eqb g top e)
 
     module _ (d : g ≢ top) where
-      pub node-stale : get_or T.slots (5 * s) 0 ≢ g → top ≡ nodeAt Z T i (handle s g)
-      unfolding nodeAt
+      pub node-stale : get_or T.slots (5 * s) 0 ≢ g → top ≡ node_at Z T i (handle s g)
+      unfolding node_at
       node-stale e = rw (lt-ltb s (extents T).slots l, ne_eqb g top d, ne_eqb (get_or T.slots (5 * s) 0) g e)
 
-      pub node-else : get_or T.slots (5 * s) 0 ≡ g → (members-in Z T).home s ≢ i → top ≡ nodeAt Z T i (handle s g)
-      unfolding nodeAt
-      node-else e h = rw (lt-ltb s (extents T).slots l, ne_eqb g top d, eq-eqb (get_or T.slots (5 * s) 0) g e, ne_eqb ((members-in Z T).home s) i h)
+      pub node-else : get_or T.slots (5 * s) 0 ≡ g → (members_in Z T).home s ≢ i → top ≡ node_at Z T i (handle s g)
+      unfolding node_at
+      node-else e h = rw (lt-ltb s (extents T).slots l, ne_eqb g top d, eq-eqb (get_or T.slots (5 * s) 0) g e, ne_eqb ((members_in Z T).home s) i h)
 
-      pub node-here : get_or T.slots (5 * s) 0 ≡ g → (members-in Z T).home s ≡ i → (members-in Z T).place s ≡ nodeAt Z T i (handle s g)
-      unfolding nodeAt
-      node-here e h = rw (lt-ltb s (extents T).slots l, ne_eqb g top d, eq-eqb (get_or T.slots (5 * s) 0) g e, eq-eqb ((members-in Z T).home s) i h)
+      pub node-here : get_or T.slots (5 * s) 0 ≡ g → (members_in Z T).home s ≡ i → (members_in Z T).place s ≡ node_at Z T i (handle s g)
+      unfolding node_at
+      node-here e h = rw (lt-ltb s (extents T).slots l, ne_eqb g top d, eq-eqb (get_or T.slots (5 * s) 0) g e, eq-eqb ((members_in Z T).home s) i h)
 
 -- the five cases
 pub node-cases : (Z : Sizes) (T : Tables) (i : ℕ) (h : Handle) (P : ℕ → Type 0)
-    → P top → (h.slot < (extents T).slots → h.generation ≢ top → get_or T.slots (5 * h.slot) 0 ≡ h.generation → (members-in Z T).home h.slot ≡ i → P ((members-in Z T).place h.slot))
-    → P (nodeAt Z T i h)
+    → P top → (h.slot < (extents T).slots → h.generation ≢ top → get_or T.slots (5 * h.slot) 0 ≡ h.generation → (members_in Z T).home h.slot ≡ i → P ((members_in Z T).place h.slot))
+    → P (node_at Z T i h)
 node-cases Z T i h P p q =
     let s = h.slot in
     let g = h.generation in
@@ -71,7 +71,7 @@ node-cases Z T i h P p q =
     either g top (λ e. subst P (node-absent Z T i s g l e) p)
     (λ d.
     either (get_or T.slots (5 * s) 0) g
-    (λ e. either ((members-in Z T).home s) i (λ m. subst P (node-here Z T i s g l d e m) (q l d e m)) (λ m. subst P (node-else Z T i s g l d e m) p))
+    (λ e. either ((members_in Z T).home s) i (λ m. subst P (node-here Z T i s g l d e m) (q l d e m)) (λ m. subst P (node-else Z T i s g l d e m) p))
     (λ e. subst P (node-stale Z T i s g l d e) p)))
     (λ l. subst P (node-far Z T i s g l) p)
 
@@ -87,26 +87,26 @@ module _ {Z : Sizes} {t : List ℕ} (S : Sound Z t) (i : ℕ) (il : i < (extents
   w = decode Z (extents (tables Z t)) (tables Z t)
 
   not_top : i ≢ top
-  not_top e = let m = S.good.members-wf.rules.m-small in omega arith
+  not_top e = let m = S.good.members_wf.rules.m_small in omega arith
 
   unnamed : named w h ≡ false → node_of w i h ≡ top
-  unfolding node_of body-island
+  unfolding node_of body_island
   unnamed e = rw (e, ne_eqb top i (λ q. not_top (sym q)))
 
   module _ (l : h.slot < X.slots) (e : named w h ≡ true) where
-    elsewhere : (members-in Z T).home h.slot ≢ i → node_of w i h ≡ top
-    unfolding node_of body-island
-    elsewhere d = rw (e, island-of Z X T S.good h.slot l, ne_eqb ((members-in Z T).home h.slot) i d)
+    elsewhere : (members_in Z T).home h.slot ≢ i → node_of w i h ≡ top
+    unfolding node_of body_island
+    elsewhere d = rw (e, island-of Z X T S.good h.slot l, ne_eqb ((members_in Z T).home h.slot) i d)
 
-    here : (members-in Z T).home h.slot ≡ i → node_of w i h ≡ (members-in Z T).place h.slot
-    unfolding node_of body-island
+    here : (members_in Z T).home h.slot ≡ i → node_of w i h ≡ (members_in Z T).place h.slot
+    unfolding node_of body_island
     here q =
-        let hl : (members-in Z T).home h.slot < X.islands = omega arith in
+        let hl : (members_in Z T).home h.slot < X.islands = omega arith in
         let p = place-of Z X T S.good h.slot l hl in
-        let b : (islandAt w i).bodies ≡ list_of (members-in Z T) i = ap (λ (a : Island). a.bodies) (island-at Z X T i il) in
-        rw (e, island-of Z X T S.good h.slot l, eq-eqb ((members-in Z T).home h.slot) i q, b) (rw q at p)
+        let b : (island_at w i).bodies ≡ list_of (members_in Z T) i = ap (λ (a : Island). a.bodies) (island-at Z X T i il) in
+        rw (e, island-of Z X T S.good h.slot l, eq-eqb ((members_in Z T).home h.slot) i q, b) (rw q at p)
 
-  node-same : node_of w i h ≡ nodeAt Z T i h
+  node-same : node_of w i h ≡ node_at Z T i h
   node-same =
       let s = h.slot in
       let g = h.generation in
@@ -117,20 +117,20 @@ module _ {Z : Sizes} {t : List ℕ} (S : Sound Z t) (i : ℕ) (il : i < (extents
       either (get_or T.slots (5 * s) 0) g
       (λ e.
       let n : named w h ≡ true = named-at Z X T h l d ∙ eq-eqb _ _ e in
-      either ((members-in Z T).home s) i (λ m. here l n m ∙ node-here Z T i s g l d e m) (λ m. elsewhere l n m ∙ node-else Z T i s g l d e m))
+      either ((members_in Z T).home s) i (λ m. here l n m ∙ node-here Z T i s g l d e m) (λ m. elsewhere l n m ∙ node-else Z T i s g l d e m))
       (λ e. unnamed (named-at Z X T h l d ∙ ne_eqb _ _ e) ∙ node-stale Z T i s g l d e)))
       (λ l. unnamed (named-far Z X T h l) ∙ node-far Z T i s g l)
 
-  pub node-is : node_of (worldOf Z t) i h ≡ nodeAt Z (tables Z t) i h
-  unfolding worldOf
+  pub node-is : node_of (world_of Z t) i h ≡ node_at Z (tables Z t) i h
+  unfolding world_of
   node-is = node-same
 
 -- where the bodies stay, the places stay
-pub node_stays : (Z : Sizes) (T U : Tables) (i : ℕ) (h : Handle) → BodiesStay Z T U → nodeAt Z U i h ≡ nodeAt Z T i h
+pub node_stays : (Z : Sizes) (T U : Tables) (i : ℕ) (h : Handle) → BodiesStay Z T U → node_at Z U i h ≡ node_at Z T i h
 node_stays Z T U i h B =
     let s = h.slot in
     let g = h.generation in
-    let n = B.slots-in-use in
+    let n = B.slots_in_use in
     let v : get_or U.slots (5 * s) 0 ≡ get_or T.slots (5 * s) 0 = ap (λ (x : List ℕ). get_or x (5 * s) 0) B.slots in
     below s (extents T).slots
     (λ l.
@@ -140,7 +140,7 @@ node_stays Z T U i h B =
     (λ d.
     either (get_or T.slots (5 * s) 0) g
     (λ e.
-    either ((members-in Z T).home s) i (λ q. sym (node-here Z U i s g l' d (v ∙ e) (m ∙ q)) ∙ B.place s l ∙ node-here Z T i s g l d e q)
+    either ((members_in Z T).home s) i (λ q. sym (node-here Z U i s g l' d (v ∙ e) (m ∙ q)) ∙ B.place s l ∙ node-here Z T i s g l d e q)
     (λ q. sym (node-else Z U i s g l' d (v ∙ e) (λ x. q (sym m ∙ x))) ∙ node-else Z T i s g l d e q))
     (λ e. sym (node-stale Z U i s g l' d (λ x. e (sym v ∙ x))) ∙ node-stale Z T i s g l d e)))
     (λ l. sym (node-far Z U i s g (omega arith)) ∙ node-far Z T i s g l)

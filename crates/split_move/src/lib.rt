@@ -1,10 +1,10 @@
 // One link, one body or one number in the middle of a split, on loose tables: all well formed, but that an island may have no body yet.
 ghost use Rattle.std.specs.Prelude.{◌≡◌, ℕ, ◌≤◌, ◌<◌, length};
 ghost use Rattle.list_in_table.specs.Rules.{none};
-ghost use Rattle.table_meaning.specs.Layout.{tables, total, extents, freed-in};
+ghost use Rattle.table_meaning.specs.Layout.{tables, total, extents, freed_in};
 ghost use Rattle.core_laws.specs.Steps.{handle};
 ghost use Rattle.core_laws.specs.Loose.{Loosely};
-ghost use Rattle.split_move.specs.Shift.{nodeAt, ContactMoved, JointMoved, BodyMoved, ContactGoes, JointGoes, BodyGoes, NumberTaken};
+ghost use Rattle.split_move.specs.Shift.{node_at, ContactMoved, JointMoved, BodyMoved, ContactGoes, JointGoes, BodyGoes, NumberTaken};
 
 use def_kinds::{NONE, Sizes};
 use table_meaning::{Table, word};
@@ -12,7 +12,7 @@ use table_meaning::{Table, word};
 // node_of: the place of the body that the handle names among the bodies of the island i; NONE where it is no member of i.
 pub fn node_at(t: &[u32], z: Sizes, i: u32, s: u32, g: u32) -> u32
     requires { (length t.now ≡ total z) × ((extents (tables z t.now)).slots ≤ z.slots) }
-    ensures { (result ≡ nodeAt z (tables z t.now) i (handle s g)) × (result ≤ 4294967295) }
+    ensures { (result ≡ node_at z (tables z t.now) i (handle s g)) × (result ≤ 4294967295) }
 {
     let in_use = table_words::head_word(t, z, word::SLOTS_USED);
     if s >= in_use {
@@ -61,7 +61,7 @@ pub fn move_body(t: &mut [u32], z: Sizes, s: u32, to: u32)
 
 // A number for a new island: the last freed, or the next unused. Its sleeping word is set.
 pub fn take_number(t: &mut [u32], z: Sizes, asleep: u32) -> u32
-    requires { Loosely z t.old × (asleep ≤ 1) × ((freed-in z (tables z t.old)).count 0 ≡ 0 → ((extents (tables z t.old)).islands < z.islands) × ((extents (tables z t.old)).islands < none)) }
+    requires { Loosely z t.old × (asleep ≤ 1) × ((freed_in z (tables z t.old)).count 0 ≡ 0 → ((extents (tables z t.old)).islands < z.islands) × ((extents (tables z t.old)).islands < none)) }
     ensures { NumberTaken z asleep result t.old t.new }
 {
     core_ensure::make_ready(t, z);

@@ -1,7 +1,7 @@
 // The waiting split, and who may bid, on sound tables.
 ghost use Rattle.std.specs.Prelude.{◌≡◌, ◌≤◌};
-ghost use Rattle.def_state.specs.Split.{schedule-split, run-pending-split, split-allowed};
-ghost use Rattle.table_meaning.specs.Decode.{worldOf};
+ghost use Rattle.def_state.specs.Split.{schedule_split, run_pending_split, split_allowed};
+ghost use Rattle.table_meaning.specs.Decode.{world_of};
 ghost use Rattle.table_meaning.specs.Sound.{Sound};
 ghost use Rattle.table_meaning.specs.Does.{Does};
 
@@ -11,7 +11,7 @@ use table_meaning::{Table, word};
 // schedule_split: any number; it overwrites.
 pub fn schedule_on(t: &mut [u32], z: Sizes, i: u32) -> Answer
     requires { Sound z t.old }
-    ensures { Does z (schedule-split i) t.old result t.new }
+    ensures { Does z (schedule_split i) t.old result t.new }
 {
     table_words::set2(t, z, Table::Head, word::IS_PENDING, 1, i);
     Answer::Done
@@ -20,7 +20,7 @@ pub fn schedule_on(t: &mut [u32], z: Sizes, i: u32) -> Answer
 // run_pending_split: it is cleared; a live, awake island is split.
 pub fn run_on(t: &mut [u32], z: Sizes) -> Answer
     requires { Sound z t.old × (z.slots ≤ 4096) }
-    ensures { Does z run-pending-split t.old result t.new }
+    ensures { Does z run_pending_split t.old result t.new }
 {
     let is_pending = table_words::get(t, z, Table::Head, word::IS_PENDING);
     if is_pending != 1 {
@@ -43,7 +43,7 @@ pub fn run_on(t: &mut [u32], z: Sizes) -> Answer
 // split_allowed: a live island with a count, whose denial is over.
 pub fn may_bid(t: &[u32], z: Sizes, i: u32) -> bool
     requires { Sound z t.now }
-    ensures { result ≡ split-allowed i (worldOf z t.now) }
+    ensures { result ≡ split_allowed i (world_of z t.now) }
 {
     if !core_live::is_live(t, z, i) {
         return false;

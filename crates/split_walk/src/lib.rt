@@ -1,9 +1,9 @@
 // The walks of a split on loose tables: contact links, joint links, then bodies leave the island base, from the highest place down, by swap removal.
 ghost use Rattle.std.specs.Prelude.{◌≡◌, length, ◌≤◌, ◌<◌};
-ghost use Rattle.def_state.specs.Split.{linkGoal};
+ghost use Rattle.def_state.specs.Split.{link_goal};
 ghost use Rattle.table_meaning.specs.Layout.{tables};
 ghost use Rattle.core_laws.specs.Steps.{handle};
-ghost use Rattle.split_move.specs.Shift.{nodeAt};
+ghost use Rattle.split_move.specs.Shift.{node_at};
 ghost use Rattle.split_walk.specs.Walk.{goes, Goals, KeepStays, ContactAt, JointIn, ContactLeft, JointLeft, ContactsLeft, JointsLeft, BodiesLeft};
 
 use def_kinds::{NONE, Sizes};
@@ -21,7 +21,7 @@ pub fn link_goal(
     g2: u32,
 ) -> u32
     requires { Goals z base goals.now t.now }
-    ensures { result ≡ linkGoal (goes goals.now) (nodeAt z (tables z t.now) base (handle s1 g1)) (nodeAt z (tables z t.now) base (handle s2 g2)) }
+    ensures { result ≡ link_goal (goes goals.now) (node_at z (tables z t.now) base (handle s1 g1)) (node_at z (tables z t.now) base (handle s2 g2)) }
 {
     let a = split_move::node_at(t, z, base, s1, g1);
     if a != NONE {

@@ -11,7 +11,7 @@ use borrow.Author.Tests.{not-true, not-false}
 use Rattle.list_in_table.specs.Rules.{none, Is}
 use Rattle.list_audit.proofs.Laws.{is-no}
 use Rattle.def_kinds.specs.declared.Sizes.{Sizes}
-use Rattle.table_meaning.specs.Layout.{tables, total, joints-in}
+use Rattle.table_meaning.specs.Layout.{tables, total, joints_in}
 use Rattle.table_meaning.specs.Rule.{JointRule}
 use Rattle.table_meaning.specs.Sound.{SameKey, Distinct, Good, Sound}
 use Rattle.table_audit.specs.Parts.{Extended, Within, Chained, Ruled, HeadAt, New}
@@ -52,7 +52,7 @@ module _ (P : ℕ → Type 0) where
 -- a joint place that is linked and no free place: its key decides
 pub keyed : {r : Bool} {h s k a b c s1 g1 s2 g2 : ℕ} → s ≡ none → h ≢ none → Is r (((k ≡ 0) × (c ≡ 0)) ⊎ (k ≡ 1)) → Is r (JointRule h s k a b c s1 g1 s2 g2)
 keyed e l i =
-    is_same (λ k. inr (record { linked = l; not-spare = e; key = k })) (λ o. ⊎_elim (λ u. absurd (l u.not-linked)) (λ k. k.key) o) i
+    is_same (λ k. inr (record { linked = l; not_spare = e; key = k })) (λ o. ⊎_elim (λ u. absurd (l u.not_linked)) (λ k. k.key) o) i
 
 -- keys that differ pairwise
 
@@ -74,36 +74,36 @@ module _ (home : ℕ → ℕ) (keys : List ℕ) where
 
 module _ {Z : Sizes} {t : List ℕ} {n m e j l : ℕ} (X : Extended (tables Z t) n m e j l) where
   good-at : Sound Z t → Good Z (record { slots = n; islands = m; edges = e; joints = j; journal = l }) (tables Z t)
-  good-at S = rw (X.slots-are, X.islands-are, X.edges_are, X.joints-are, X.journal-is) S.good
+  good-at S = rw (X.slots_are, X.islands_are, X.edges_are, X.joints_are, X.journal_is) S.good
 
   pub within_of : Sound Z t → Within Z n m e j l
   within_of S =
       let G = good-at S in
       record {
         enough = G.enough;
-        slots-le = G.slots-le;
-        islands-le = G.islands-le;
+        slots_le = G.slots_le;
+        islands_le = G.islands_le;
         edges_le = G.edges_le;
-        joints-le = G.joints-le;
-        journal-le = G.journal-le;
+        joints_le = G.joints_le;
+        journal_le = G.journal_le;
       }
 
   pub chained-of : Sound Z t → Chained Z (tables Z t) n m e j
   chained-of S =
       let G = good-at S in
       record {
-        members-wf = G.members-wf;
-        freed-wf = G.freed-wf;
-        contacts-wf = G.contacts-wf;
-        joints-wf = G.joints-wf;
-        spare-wf = G.spare-wf;
-        scan-wf = G.scan-wf;
+        members_wf = G.members_wf;
+        freed_wf = G.freed_wf;
+        contacts_wf = G.contacts_wf;
+        joints_wf = G.joints_wf;
+        spare_wf = G.spare_wf;
+        scan_wf = G.scan_wf;
       }
 
   pub ruled-of : Sound Z t → Ruled Z (tables Z t) n m e j
   ruled-of S = let G = good-at S in record { slot = G.slot; island = G.island; seen = G.seen; edge = G.edge; joint = G.joint }
 
-  pub distinct_of : Sound Z t → Distinct (joints-in Z (tables Z t)).home (tables Z t).keys j
+  pub distinct_of : Sound Z t → Distinct (joints_in Z (tables Z t)).home (tables Z t).keys j
   distinct_of S = (good-at S).distinct
 
   pub sound-from :
@@ -112,23 +112,23 @@ module _ {Z : Sizes} {t : List ℕ} {n m e j l : ℕ} (X : Extended (tables Z t)
       Chained Z (tables Z t) n m e j →
       Ruled Z (tables Z t) n m e j →
       HeadAt Z (tables Z t) →
-      Distinct (joints-in Z (tables Z t)).home (tables Z t).keys j →
+      Distinct (joints_in Z (tables Z t)).home (tables Z t).keys j →
       Sound Z t
   sound-from q W C R H D =
       let G : Good Z (record { slots = n; islands = m; edges = e; joints = j; journal = l }) (tables Z t) =
       record {
         enough = W.enough;
-        slots-le = W.slots-le;
-        islands-le = W.islands-le;
+        slots_le = W.slots_le;
+        islands_le = W.islands_le;
         edges_le = W.edges_le;
-        joints-le = W.joints-le;
-        journal-le = W.journal-le;
-        members-wf = C.members-wf;
-        freed-wf = C.freed-wf;
-        contacts-wf = C.contacts-wf;
-        joints-wf = C.joints-wf;
-        spare-wf = C.spare-wf;
-        scan-wf = C.scan-wf;
+        joints_le = W.joints_le;
+        journal_le = W.journal_le;
+        members_wf = C.members_wf;
+        freed_wf = C.freed_wf;
+        contacts_wf = C.contacts_wf;
+        joints_wf = C.joints_wf;
+        spare_wf = C.spare_wf;
+        scan_wf = C.scan_wf;
         slot = R.slot;
         island = R.island;
         seen = R.seen;
@@ -137,4 +137,4 @@ module _ {Z : Sizes} {t : List ℕ} {n m e j l : ℕ} (X : Extended (tables Z t)
         distinct = D;
         head = H;
       } in
-      record { long = q; good = rw (← X.slots-are, ← X.islands-are, ← X.edges_are, ← X.joints-are, ← X.journal-is) G }
+      record { long = q; good = rw (← X.slots_are, ← X.islands_are, ← X.edges_are, ← X.joints_are, ← X.journal_is) G }

@@ -1,7 +1,7 @@
 // The audit of the whole buffer, on any words: the rules of each entry, the chain tables, the head, and no key twice.
 ghost use Rattle.std.specs.Prelude.{◌≡◌, ◌⊎◌, ℕ, ◌<◌, ◌≤◌, length};
 ghost use Rattle.list_in_table.specs.Rules.{Is};
-ghost use Rattle.table_meaning.specs.Layout.{tables, total, joints-in};
+ghost use Rattle.table_meaning.specs.Layout.{tables, total, joints_in};
 ghost use Rattle.table_meaning.specs.Rule.{SlotRule, IslandRule, ScanRule, EdgeRule, JointRule, HeadRule};
 ghost use Rattle.table_meaning.specs.Sound.{SlotAt, IslandAt, SeenAt, EdgeAt, JointAt, SameKey, Distinct, Sound};
 ghost use Rattle.table_audit.specs.Parts.{Extended, Within, Chained, Ruled, HeadAt, Other, New};
@@ -407,7 +407,7 @@ fn same_key(t: &[u32], z: Sizes, p: u32, q: u32) -> bool
 // Is the place q not linked, or its key another than that of p?
 fn is_other(t: &[u32], z: Sizes, p: u32, q: u32) -> bool
     requires { (length t.now ≡ total z) × (p < z.joints) × (q < z.joints) }
-    ensures { Is result (Other (joints-in z (tables z t.now)).home (tables z t.now).keys p q) }
+    ensures { Is result (Other (joints_in z (tables z t.now)).home (tables z t.now).keys p q) }
 {
     if table_words::home(t, z, Table::Joints, q) == NONE {
         return true;
@@ -421,7 +421,7 @@ fn is_other(t: &[u32], z: Sizes, p: u32, q: u32) -> bool
 // Is the place p not linked, or its key that of no linked place below it?
 fn is_new(t: &[u32], z: Sizes, p: u32) -> bool
     requires { (length t.now ≡ total z) × (p < z.joints) }
-    ensures { Is result (New (joints-in z (tables z t.now)).home (tables z t.now).keys p) }
+    ensures { Is result (New (joints_in z (tables z t.now)).home (tables z t.now).keys p) }
 {
     if table_words::home(t, z, Table::Joints, p) == NONE {
         return true;
@@ -440,7 +440,7 @@ fn is_new(t: &[u32], z: Sizes, p: u32) -> bool
 // Is no key twice among the linked places in use? Each pair of them is compared.
 fn keys_differ(t: &[u32], z: Sizes, n: u32) -> bool
     requires { (length t.now ≡ total z) × (n ≤ z.joints) }
-    ensures { Is result (Distinct (joints-in z (tables z t.now)).home (tables z t.now).keys n) }
+    ensures { Is result (Distinct (joints_in z (tables z t.now)).home (tables z t.now).keys n) }
 {
     let mut p: u32 = 0;
     // One turn for each joint place in use, which looks at each place below it.

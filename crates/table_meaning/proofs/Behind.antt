@@ -9,7 +9,7 @@ use lib.ListN.{length, get_or, set}
 use lib.Seq.{get_or-set_same, get_or-set_other}
 use Rattle.list_in_table.specs.Rules.{none, View}
 use Rattle.list_in_table.specs.Word.{writes, Misses, miss}
-use Rattle.list_in_table.specs.Table.{view, Wf, removed, nextSet, RemoveReady}
+use Rattle.list_in_table.specs.Table.{view, Wf, removed, next_set, RemoveReady}
 use Rattle.def_kinds.specs.Choice.{pick}
 use Rattle.list_in_table.proofs.Laws.{either, known, inner, Known, Inner}
 use Rattle.list_in_table.proofs.Words.{next-other}
@@ -66,23 +66,23 @@ module _ {t : List ℕ} {b z e : ℕ} (R : RemoveReady t b z e) (j : ℕ) (h : b
 
   apart-list : (f : ℕ) → f < 2 → j ≢ y + f
   apart-list f g =
-      let il : i < R.m = K.home-lt in
+      let il : i < R.m = K.home_lt in
       ⊎_elim (λ (d : j < z). omega arith) (λ (d : z + 2 * R.m ≤ j). omega arith) o
 
   el : e < R.n
-  el = K.e-lt
+  el = K.e_lt
 
   ql : q < R.n
-  ql = K.last-lt
+  ql = K.last_lt
 
   s-is : get_or s j 0 ≡ get_or t j 0
   s-is = let k = el in let d0 = apart-list 0 (omega arith) in miss t ss j (omega arith)
 
   v-apart : v ≢ none → j ≢ b + 4 * v + 3
-  v-apart d = apart-elem v 3 (K.prev-ok d) (omega arith)
+  v-apart d = apart-elem v 3 (K.prev_ok d) (omega arith)
 
   abbrev u : List ℕ
-  u = nextSet (writes s us) b v q
+  u = next_set (writes s us) b v q
 
   u-is : get_or u j 0 ≡ get_or t j 0
   u-is = let k = ql in next-other (writes s us) b v q j v-apart ∙ miss s us j (omega arith) ∙ s-is
@@ -97,8 +97,8 @@ module _ {t : List ℕ} {b z e : ℕ} (R : RemoveReady t b z e) (j : ℕ) (h : b
       (either w e (λ g. rw (eq-eqb w e g) u-is)
       (λ d2.
       let I : Inner t b z e R.n R.m = inner R d in
-      let xl : x < R.n = I.next-lt in
-      let wl : w < R.n = I.prev-last in
+      let xl : x < R.n = I.next_lt in
+      let wl : w < R.n = I.prev_last in
       let k = ql in
       let d1 = apart-list 1 (omega arith) in
       rw (ne_eqb w e d2) (miss u zs j (omega arith) ∙ u-is))))

@@ -5,16 +5,16 @@ use Prim.Native.Nat.{ℕ, zero, suc, ◌+◌, ◌-◌, ◌*◌, ◌≤◌, ◌<�
 use native.Mathlib.Omega.{arith}
 use mathlib.Core.List.{List, [], ◌∷◌, ◌++◌}
 use lib.ListN.{length, get_or, set, length-set}
-use Rattle.list_in_table.specs.Rules.{none, View, Rules, Blank, Empty, list_of, swapRemove}
-use Rattle.list_in_table.specs.Word.{writes, Misses, miss, hit, length-writes}
+use Rattle.list_in_table.specs.Rules.{none, View, Rules, Blank, Empty, list_of, swap_remove}
+use Rattle.list_in_table.specs.Word.{writes, Misses, miss, hit, length_writes}
 use Rattle.list_in_table.specs.Table.{view, Wf, pushed, removed, PushReady, RemoveReady}
-use Rattle.list_in_table.proofs.Laws.{either, last-lt}
+use Rattle.list_in_table.proofs.Laws.{either, last_lt}
 use Rattle.list_in_table.proofs.Order.{length-list}
 use Rattle.list_in_table.proofs.Words.{next-other, length-pushed, push-view, push-wf, push-lists-i, push-lists-o}
 use Rattle.list_in_table.proofs.Push.{Pushed}
 use Rattle.list_in_table.proofs.WordsRemove.{remove-kept}
 use Rattle.list_in_table.proofs.WordsRemove as words
-use Rattle.table_meaning.specs.Layout.{elemWords, listWords}
+use Rattle.table_meaning.specs.Layout.{elem_words, list_words}
 use Rattle.table_meaning.specs.Does.{ChainKept}
 use Rattle.table_meaning.proofs.More.{Agrees, rules-more, list_same}
 use Rattle.table_meaning.proofs.Behind.{remove-behind}
@@ -40,13 +40,13 @@ pub record Grown (N n m n' m' : ℕ) (x y : List ℕ) : Type 0 where
 -- ---- one more element
 module _ (N n m : ℕ) (x : List ℕ) (w : Wf x 0 (4 * N) n m) (l : n < N) (s : n < none) where
   abbrev ws : List (ℕ × ℕ)
-  ws = elemWords (4 * n)
+  ws = elem_words (4 * n)
 
   abbrev y : List ℕ
   y = writes x ws
 
   long : 4 * N ≤ length x
-  long = let q = w.lists-below in omega arith
+  long = let q = w.lists_below in omega arith
 
   elem-o : (j : ℕ) → (j < 4 * n) ⊎ (4 * n + 4 ≤ j) → get_or y j 0 ≡ get_or x j 0
   elem-o j o = miss x ws j (⊎_elim (λ (p : j < 4 * n). omega arith) (λ (p : 4 * n + 4 ≤ j). omega arith) o)
@@ -69,10 +69,10 @@ module _ (N n m : ℕ) (x : List ℕ) (w : Wf x 0 (4 * N) n m) (l : n < N) (s : 
       let z : 4 * n ≡ 0 + 4 * n = omega arith in
       subst (λ (k : ℕ). Blank (n + 1) m (view y 0 (4 * N)) k) (sym q)
       (record {
-        home-none = subst (λ (x : ℕ). get_or y x 0 ≡ none) z e0;
+        home_none = subst (λ (x : ℕ). get_or y x 0 ≡ none) z e0;
         place_none = subst (λ (x : ℕ). get_or y (x + 1) 0 ≡ none) z e1;
-        prev-none = subst (λ (x : ℕ). get_or y (x + 2) 0 ≡ none) z e2;
-        next-none = subst (λ (x : ℕ). get_or y (x + 3) 0 ≡ none) z e3;
+        prev_none = subst (λ (x : ℕ). get_or y (x + 2) 0 ≡ none) z e2;
+        next_none = subst (λ (x : ℕ). get_or y (x + 3) 0 ≡ none) z e3;
       })
 
   elem-agrees : Agrees n m (view x 0 (4 * N)) (view y 0 (4 * N))
@@ -88,13 +88,13 @@ module _ (N n m : ℕ) (x : List ℕ) (w : Wf x 0 (4 * N) n m) (l : n < N) (s : 
 
   pub elem-grown : Grown N n m (n + 1) m x y
   elem-grown =
-      let k = length-writes x ws in
+      let k = length_writes x ws in
       record {
         wf =
             record {
-              elems-below = omega arith;
-              lists-below = (let q = w.lists-below in omega arith);
-              rules = rules-more w.rules elem-agrees (omega arith) (omega arith) (omega arith) w.rules.m-small blank (λ i a b. absurd (omega arith));
+              elems_below = omega arith;
+              lists_below = (let q = w.lists_below in omega arith);
+              rules = rules-more w.rules elem-agrees (omega arith) (omega arith) (omega arith) w.rules.m_small blank (λ i a b. absurd (omega arith));
             };
         agrees = elem-agrees;
         lists = λ i h. list_same w.rules elem-agrees i h;
@@ -104,32 +104,32 @@ module _ (N n m : ℕ) (x : List ℕ) (w : Wf x 0 (4 * N) n m) (l : n < N) (s : 
 
   -- the new element is in no list
   pub elem-home : (view y 0 (4 * N)).home n ≡ none
-  elem-home = (blank n (omega arith) (omega arith)).home-none
+  elem-home = (blank n (omega arith) (omega arith)).home_none
 
 -- ---- one more list
 module _ (N n m M : ℕ) (x : List ℕ) (w : Wf x 0 (4 * N) n m) (l : m < M) (s : m < none) (lx : length x ≡ 4 * N + 2 * M) where
   abbrev vs : List (ℕ × ℕ)
-  vs = listWords (4 * N + 2 * m)
+  vs = list_words (4 * N + 2 * m)
 
   abbrev u : List ℕ
   u = writes x vs
 
-  list-o : (j : ℕ) → (j < 4 * N + 2 * m) ⊎ (4 * N + 2 * m + 2 ≤ j) → get_or u j 0 ≡ get_or x j 0
-  list-o j o = miss x vs j (⊎_elim (λ (p : j < 4 * N + 2 * m). omega arith) (λ (p : 4 * N + 2 * m + 2 ≤ j). omega arith) o)
+  list_o : (j : ℕ) → (j < 4 * N + 2 * m) ⊎ (4 * N + 2 * m + 2 ≤ j) → get_or u j 0 ≡ get_or x j 0
+  list_o j o = miss x vs j (⊎_elim (λ (p : j < 4 * N + 2 * m). omega arith) (λ (p : 4 * N + 2 * m + 2 ≤ j). omega arith) o)
 
   nl : 4 * n ≤ 4 * N
-  nl = let q = w.elems-below in omega arith
+  nl = let q = w.elems_below in omega arith
 
   list-agrees : Agrees n m (view x 0 (4 * N)) (view u 0 (4 * N))
   list-agrees =
       let q = nl in
       record {
-        home = λ e h. list-o (0 + 4 * e) (inl (omega arith));
-        place = λ e h. list-o (0 + 4 * e + 1) (inl (omega arith));
-        prev = λ e h. list-o (0 + 4 * e + 2) (inl (omega arith));
-        next = λ e h. list-o (0 + 4 * e + 3) (inl (omega arith));
-        count = λ i h. list-o (4 * N + 2 * i) (inl (omega arith));
-        last = λ i h. list-o (4 * N + 2 * i + 1) (inl (omega arith));
+        home = λ e h. list_o (0 + 4 * e) (inl (omega arith));
+        place = λ e h. list_o (0 + 4 * e + 1) (inl (omega arith));
+        prev = λ e h. list_o (0 + 4 * e + 2) (inl (omega arith));
+        next = λ e h. list_o (0 + 4 * e + 3) (inl (omega arith));
+        count = λ i h. list_o (4 * N + 2 * i) (inl (omega arith));
+        last = λ i h. list_o (4 * N + 2 * i + 1) (inl (omega arith));
       }
 
   -- the new list is empty
@@ -140,15 +140,15 @@ module _ (N n m M : ℕ) (x : List ℕ) (w : Wf x 0 (4 * N) n m) (l : m < M) (s 
   list-last = hit x ((4 * N + 2 * m, 0) ∷ []) (4 * N + 2 * m + 1) none [] (omega arith) (omega arith)
 
   empty : (i : ℕ) → m ≤ i → i < m + 1 → Empty n (m + 1) (view u 0 (4 * N)) i
-  empty i a b = let q : i ≡ m = omega arith in subst (λ (k : ℕ). Empty n (m + 1) (view u 0 (4 * N)) k) (sym q) (record { no-count = list_count; no_last = list-last })
+  empty i a b = let q : i ≡ m = omega arith in subst (λ (k : ℕ). Empty n (m + 1) (view u 0 (4 * N)) k) (sym q) (record { no_count = list_count; no_last = list-last })
 
   list-wf : Wf u 0 (4 * N) n (m + 1)
   list-wf =
-      let k = length-writes x vs in
+      let k = length_writes x vs in
       record {
-        elems-below = w.elems-below;
-        lists-below = omega arith;
-        rules = rules-more w.rules list-agrees (omega arith) (omega arith) w.rules.n-small (omega arith) (λ e a b. absurd (omega arith)) empty;
+        elems_below = w.elems_below;
+        lists_below = omega arith;
+        rules = rules-more w.rules list-agrees (omega arith) (omega arith) w.rules.n_small (omega arith) (λ e a b. absurd (omega arith)) empty;
       }
 
   pub list-grown : Grown N n m n (m + 1) x u
@@ -157,8 +157,8 @@ module _ (N n m M : ℕ) (x : List ℕ) (w : Wf x 0 (4 * N) n m) (l : m < M) (s 
         wf = list-wf;
         agrees = list-agrees;
         lists = λ i h. list_same w.rules list-agrees i h;
-        kept = record { elems = λ j a b. list-o j (inl (omega arith)); ends = λ j a. list-o j (inr (omega arith)) };
-        long = length-writes x vs;
+        kept = record { elems = λ j a b. list_o j (inl (omega arith)); ends = λ j a. list_o j (inr (omega arith)) };
+        long = length_writes x vs;
       }
 
   pub list-new : list_of (view u 0 (4 * N)) m ≡ []
@@ -174,14 +174,14 @@ push-behind {t} {b} {z} {n} {m} w i e il el j h o =
     let c = get_or t y 0 in
     let l = get_or t (y + 1) 0 in
     let ws : List (ℕ × ℕ) = (a, i) ∷ (a + 1, c) ∷ (a + 2, l) ∷ (a + 3, none) ∷ (y, c + 1) ∷ (y + 1, e) ∷ [] in
-    next-other (writes t ws) b l e j (λ d. let q : l < n = last-lt w.rules i il d in omega arith)
-    ∙ miss t ws j (⊎_elim (λ (p : j < z). omega arith) (λ (p : z + 2 * m ≤ j). let q = w.elems-below in omega arith) o)
+    next-other (writes t ws) b l e j (λ d. let q : l < n = last_lt w.rules i il d in omega arith)
+    ∙ miss t ws j (⊎_elim (λ (p : j < z). omega arith) (λ (p : z + 2 * m ≤ j). let q = w.elems_below in omega arith) o)
 
 pub record Added (N n m i e : ℕ) (x y : List ℕ) : Type 0 where
   pub wf : Wf y 0 (4 * N) n m
-  pub view-is : Pushed n m i e (view x 0 (4 * N)) (view y 0 (4 * N))
-  pub list-i : list_of (view y 0 (4 * N)) i ≡ list_of (view x 0 (4 * N)) i ++ (e ∷ [])
-  pub list-o : (j : ℕ) → j < m → j ≢ i → list_of (view y 0 (4 * N)) j ≡ list_of (view x 0 (4 * N)) j
+  pub view_is : Pushed n m i e (view x 0 (4 * N)) (view y 0 (4 * N))
+  pub list_i : list_of (view y 0 (4 * N)) i ≡ list_of (view x 0 (4 * N)) i ++ (e ∷ [])
+  pub list_o : (j : ℕ) → j < m → j ≢ i → list_of (view y 0 (4 * N)) j ≡ list_of (view x 0 (4 * N)) j
   pub kept : ChainKept N n m x y
   pub long : length y ≡ length x
 
@@ -189,50 +189,50 @@ pub added : (N n m : ℕ) (x : List ℕ) (w : Wf x 0 (4 * N) n m) (i e : ℕ) �
 added N n m x w i e il el b =
     record {
       wf = push-wf w i e il el b;
-      view-is = push-view w i e il el b;
-      list-i = push-lists-i w i e il el b;
-      list-o = push-lists-o w i e il el b;
+      view_is = push-view w i e il el b;
+      list_i = push-lists-i w i e il el b;
+      list_o = push-lists-o w i e il el b;
       kept =
           record {
             elems = λ j a b. push-behind w i e il el j (omega arith) (inl b);
-            ends = λ j a. (let q = w.elems-below in push-behind w i e il el j (omega arith) (inr a));
+            ends = λ j a. (let q = w.elems_below in push-behind w i e il el j (omega arith) (inr a));
           };
       long = length-pushed w i e il el b;
     }
 
-abbrev pub push-ready : (N : ℕ) {n m : ℕ} {x : List ℕ} (w : Wf x 0 (4 * N) n m) (i e : ℕ) → i < m → e < n → (view x 0 (4 * N)).home e ≡ none → PushReady x 0 (4 * N) i e
-push-ready N {n} {m} w i e il el b = record { n = n; m = m; wf = w; list-lt = il; elem-lt = el; elem-blank = b }
+abbrev pub push_ready : (N : ℕ) {n m : ℕ} {x : List ℕ} (w : Wf x 0 (4 * N) n m) (i e : ℕ) → i < m → e < n → (view x 0 (4 * N)).home e ≡ none → PushReady x 0 (4 * N) i e
+push_ready N {n} {m} w i e il el b = record { n = n; m = m; wf = w; list_lt = il; elem_lt = el; elem_blank = b }
 
 pub record Taken (N n m e : ℕ) (x y : List ℕ) : Type 0 where
   pub wf : Wf y 0 (4 * N) n m
-  pub list-e : list_of (view y 0 (4 * N)) ((view x 0 (4 * N)).home e) ≡ swapRemove (list_of (view x 0 (4 * N)) ((view x 0 (4 * N)).home e)) ((view x 0 (4 * N)).place e)
-  pub list-o : (j : ℕ) → j < m → j ≢ (view x 0 (4 * N)).home e → list_of (view y 0 (4 * N)) j ≡ list_of (view x 0 (4 * N)) j
-  pub home-e : (view y 0 (4 * N)).home e ≡ none
-  pub home-o : (k : ℕ) → k < n → k ≢ e → (view y 0 (4 * N)).home k ≡ (view x 0 (4 * N)).home k
-  pub count-o : (j : ℕ) → j < m → j ≢ (view x 0 (4 * N)).home e → (view y 0 (4 * N)).count j ≡ (view x 0 (4 * N)).count j
-  pub count-i : (view y 0 (4 * N)).count ((view x 0 (4 * N)).home e) + 1 ≡ (view x 0 (4 * N)).count ((view x 0 (4 * N)).home e)
+  pub list_e : list_of (view y 0 (4 * N)) ((view x 0 (4 * N)).home e) ≡ swap_remove (list_of (view x 0 (4 * N)) ((view x 0 (4 * N)).home e)) ((view x 0 (4 * N)).place e)
+  pub list_o : (j : ℕ) → j < m → j ≢ (view x 0 (4 * N)).home e → list_of (view y 0 (4 * N)) j ≡ list_of (view x 0 (4 * N)) j
+  pub home_e : (view y 0 (4 * N)).home e ≡ none
+  pub home_o : (k : ℕ) → k < n → k ≢ e → (view y 0 (4 * N)).home k ≡ (view x 0 (4 * N)).home k
+  pub count_o : (j : ℕ) → j < m → j ≢ (view x 0 (4 * N)).home e → (view y 0 (4 * N)).count j ≡ (view x 0 (4 * N)).count j
+  pub count_i : (view y 0 (4 * N)).count ((view x 0 (4 * N)).home e) + 1 ≡ (view x 0 (4 * N)).count ((view x 0 (4 * N)).home e)
   pub kept : ChainKept N n m x y
   pub long : length y ≡ length x
 
-abbrev pub remove-ready : (N : ℕ) {n m : ℕ} {x : List ℕ} (w : Wf x 0 (4 * N) n m) (e : ℕ) → e < n → (view x 0 (4 * N)).home e ≢ none → RemoveReady x 0 (4 * N) e
-remove-ready N {n} {m} w e el h = record { n = n; m = m; wf = w; elem-lt = el; elem-held = h }
+abbrev pub remove_ready : (N : ℕ) {n m : ℕ} {x : List ℕ} (w : Wf x 0 (4 * N) n m) (e : ℕ) → e < n → (view x 0 (4 * N)).home e ≢ none → RemoveReady x 0 (4 * N) e
+remove_ready N {n} {m} w e el h = record { n = n; m = m; wf = w; elem_lt = el; elem_held = h }
 
 pub taken : (N n m : ℕ) (x : List ℕ) (w : Wf x 0 (4 * N) n m) (e : ℕ) → e < n → (view x 0 (4 * N)).home e ≢ none → Taken N n m e x (removed x 0 (4 * N) e)
 taken N n m x w e el h =
     let K = remove-kept w e el h in
-    let R = remove-ready N w e el h in
+    let R = remove_ready N w e el h in
     record {
-      wf = K.wf-kept;
-      list-e = K.list-e;
-      list-o = K.list-o;
-      home-e = K.e-blank.home-none;
-      home-o = K.home-o;
-      count-o = K.count-o;
-      count-i = K.count-i;
+      wf = K.wf_kept;
+      list_e = K.list_e;
+      list_o = K.list_o;
+      home_e = K.e_blank.home_none;
+      home_o = K.home_o;
+      count_o = K.count_o;
+      count_i = K.count_i;
       kept =
           record {
             elems = λ j a b. remove-behind R j (omega arith) (inl b);
-            ends = λ j a. (let q = w.elems-below in remove-behind R j (omega arith) (inr a));
+            ends = λ j a. (let q = w.elems_below in remove-behind R j (omega arith) (inr a));
           };
-      long = K.length-kept;
+      long = K.length_kept;
     }

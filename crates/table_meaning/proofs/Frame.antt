@@ -6,8 +6,8 @@ use native.Mathlib.Omega.{arith}
 use lib.ListN.{length, get_or}
 use Rattle.def_kinds.specs.declared.Sizes.{Sizes}
 use Rattle.def_state.specs.World.{World}
-use Rattle.table_meaning.specs.Layout.{Tables, tables, total, Extents, extents, head-put, slots-put, members-put, rows-put, freed-put, contacts-put, touches-put, joints-put, keys-put, spare-put, journal-put, scan-put, fit-put}
-use Rattle.table_meaning.specs.Decode.{decode, worldOf}
+use Rattle.table_meaning.specs.Layout.{Tables, tables, total, Extents, extents, head_put, slots_put, members_put, rows_put, freed_put, contacts_put, touches_put, joints_put, keys_put, spare_put, journal_put, scan_put, fit_put}
+use Rattle.table_meaning.specs.Decode.{decode, world_of}
 use Rattle.table_meaning.specs.Sound.{Good, Sound}
 use Rattle.table_meaning.specs.Does.{RowsKept, ChainKept, SameBehind}
 use Rattle.table_meaning.specs.Larger.{Larger}
@@ -71,7 +71,7 @@ kept_then L A B =
 
 -- a change of one table
 module _ {Z : Sizes} {X : Extents} {T : Tables} {x : List ℕ} where
-  pub kept-head : SameBehind Z X T (head-put T x)
+  pub kept-head : SameBehind Z X T (head_put T x)
   kept-head =
       record {
         slots = λ j h. refl;
@@ -88,7 +88,7 @@ module _ {Z : Sizes} {X : Extents} {T : Tables} {x : List ℕ} where
         fit = λ j h. refl;
       }
 
-  pub kept-slots : RowsKept (5 * X.slots) T.slots x → SameBehind Z X T (slots-put T x)
+  pub kept-slots : RowsKept (5 * X.slots) T.slots x → SameBehind Z X T (slots_put T x)
   kept-slots h =
       record {
         slots = h;
@@ -105,7 +105,7 @@ module _ {Z : Sizes} {X : Extents} {T : Tables} {x : List ℕ} where
         fit = λ j h. refl;
       }
 
-  pub kept-members : ChainKept Z.slots X.slots X.islands T.members x → SameBehind Z X T (members-put T x)
+  pub kept-members : ChainKept Z.slots X.slots X.islands T.members x → SameBehind Z X T (members_put T x)
   kept-members h =
       record {
         slots = λ j h. refl;
@@ -122,7 +122,7 @@ module _ {Z : Sizes} {X : Extents} {T : Tables} {x : List ℕ} where
         fit = λ j h. refl;
       }
 
-  pub kept-rows : RowsKept (3 * X.islands) T.rows x → SameBehind Z X T (rows-put T x)
+  pub kept-rows : RowsKept (3 * X.islands) T.rows x → SameBehind Z X T (rows_put T x)
   kept-rows h =
       record {
         slots = λ j h. refl;
@@ -139,7 +139,7 @@ module _ {Z : Sizes} {X : Extents} {T : Tables} {x : List ℕ} where
         fit = λ j h. refl;
       }
 
-  pub kept-freed : ChainKept Z.islands X.islands (1) T.freed x → SameBehind Z X T (freed-put T x)
+  pub kept-freed : ChainKept Z.islands X.islands (1) T.freed x → SameBehind Z X T (freed_put T x)
   kept-freed h =
       record {
         slots = λ j h. refl;
@@ -156,7 +156,7 @@ module _ {Z : Sizes} {X : Extents} {T : Tables} {x : List ℕ} where
         fit = λ j h. refl;
       }
 
-  pub kept-contacts : ChainKept Z.edges X.edges X.islands T.contacts x → SameBehind Z X T (contacts-put T x)
+  pub kept-contacts : ChainKept Z.edges X.edges X.islands T.contacts x → SameBehind Z X T (contacts_put T x)
   kept-contacts h =
       record {
         slots = λ j h. refl;
@@ -173,7 +173,7 @@ module _ {Z : Sizes} {X : Extents} {T : Tables} {x : List ℕ} where
         fit = λ j h. refl;
       }
 
-  pub kept-touches : RowsKept (4 * X.edges) T.touches x → SameBehind Z X T (touches-put T x)
+  pub kept-touches : RowsKept (4 * X.edges) T.touches x → SameBehind Z X T (touches_put T x)
   kept-touches h =
       record {
         slots = λ j h. refl;
@@ -190,7 +190,7 @@ module _ {Z : Sizes} {X : Extents} {T : Tables} {x : List ℕ} where
         fit = λ j h. refl;
       }
 
-  pub kept-joints : ChainKept Z.joints X.joints X.islands T.joints x → SameBehind Z X T (joints-put T x)
+  pub kept-joints : ChainKept Z.joints X.joints X.islands T.joints x → SameBehind Z X T (joints_put T x)
   kept-joints h =
       record {
         slots = λ j h. refl;
@@ -207,7 +207,7 @@ module _ {Z : Sizes} {X : Extents} {T : Tables} {x : List ℕ} where
         fit = λ j h. refl;
       }
 
-  pub kept-keys : RowsKept (8 * X.joints) T.keys x → SameBehind Z X T (keys-put T x)
+  pub kept-keys : RowsKept (8 * X.joints) T.keys x → SameBehind Z X T (keys_put T x)
   kept-keys h =
       record {
         slots = λ j h. refl;
@@ -224,7 +224,7 @@ module _ {Z : Sizes} {X : Extents} {T : Tables} {x : List ℕ} where
         fit = λ j h. refl;
       }
 
-  pub kept-spare : ChainKept Z.joints X.joints (1) T.spare x → SameBehind Z X T (spare-put T x)
+  pub kept-spare : ChainKept Z.joints X.joints (1) T.spare x → SameBehind Z X T (spare_put T x)
   kept-spare h =
       record {
         slots = λ j h. refl;
@@ -241,7 +241,7 @@ module _ {Z : Sizes} {X : Extents} {T : Tables} {x : List ℕ} where
         fit = λ j h. refl;
       }
 
-  pub kept-journal : RowsKept (4 * X.journal) T.journal x → SameBehind Z X T (journal-put T x)
+  pub kept-journal : RowsKept (4 * X.journal) T.journal x → SameBehind Z X T (journal_put T x)
   kept-journal h =
       record {
         slots = λ j h. refl;
@@ -258,7 +258,7 @@ module _ {Z : Sizes} {X : Extents} {T : Tables} {x : List ℕ} where
         fit = λ j h. refl;
       }
 
-  pub kept-scan : ChainKept Z.islands X.islands (1) T.scan x → SameBehind Z X T (scan-put T x)
+  pub kept-scan : ChainKept Z.islands X.islands (1) T.scan x → SameBehind Z X T (scan_put T x)
   kept-scan h =
       record {
         slots = λ j h. refl;
@@ -275,7 +275,7 @@ module _ {Z : Sizes} {X : Extents} {T : Tables} {x : List ℕ} where
         fit = λ j h. refl;
       }
 
-  pub kept-fit : RowsKept X.islands T.fit x → SameBehind Z X T (fit-put T x)
+  pub kept-fit : RowsKept X.islands T.fit x → SameBehind Z X T (fit_put T x)
   kept-fit h =
       record {
         slots = λ j h. refl;
@@ -318,8 +318,8 @@ module _ (Z : Sizes) (X : Extents) (t : List ℕ) (W : Tables) (e : tables Z t �
   pub sound-at : length t ≡ total Z → Good Z X W → Sound Z t
   sound-at l G = record { long = l; good = back (λ Y V1. Good Z Y V1) G }
 
-  pub world-at : worldOf Z t ≡ decode Z X W
-  unfolding worldOf
+  pub world-at : world_of Z t ≡ decode Z X W
+  unfolding world_of
   world-at = back (λ Y V1. decode Z Y V1 ≡ decode Z X W) refl
 
   pub kept_at : (T : Tables) → SameBehind Z X T W → SameBehind Z (extents (tables Z t)) T (tables Z t)

@@ -10,279 +10,279 @@ use Rattle.list_in_buffer.proofs.Laws.{length_part}
 use Rattle.def_kinds.specs.declared.Sizes.{Sizes}
 use Rattle.table_meaning.specs.declared.Table.{Table}
 use Rattle.table_meaning.specs.declared.Table.TheVariants.{Head, Slots, Members, Rows, Freed, Contacts, Touches, Joints, Keys, Spare, Journal, Scan, Fit}
-use Rattle.table_meaning.specs.Layout.{Tables, tables, total, table_at, tableLong, table_of, tablePut, room, listRoom, headAt, headLong, head-put, slotsAt, slotsLong, slots-put, membersAt, membersLong, members-put, rows_at, rowsLong, rows-put, freedAt, freedLong, freed-put, contactsAt, contactsLong, contacts-put, touchesAt, touchesLong, touches-put, jointsAt, jointsLong, joints-put, keysAt, keysLong, keys-put, spareAt, spareLong, spare-put, journalAt, journalLong, journal-put, scanAt, scanLong, scan-put, fitAt, fitLong, fit-put}
+use Rattle.table_meaning.specs.Layout.{Tables, tables, total, table_at, table_span, table_of, table_put, room, list_room, head_at, head_span, head_put, slots_at, slots_span, slots_put, members_at, members_span, members_put, rows_at, rows_span, rows_put, freed_at, freed_span, freed_put, contacts_at, contacts_span, contacts_put, touches_at, touches_span, touches_put, joints_at, joints_span, joints_put, keys_at, keys_span, keys_put, spare_at, spare_span, spare_put, journal_at, journal_span, journal_put, scan_at, scan_span, scan_put, fit_at, fit_span, fit_put}
 
 -- the tables' lengths
 pub record Sized (Z : Sizes) (T : Tables) : Type 0 where
-  pub head-length : length T.head ≡ headLong Z
-  pub slots_length : length T.slots ≡ slotsLong Z
-  pub members-length : length T.members ≡ membersLong Z
-  pub rows-length : length T.rows ≡ rowsLong Z
-  pub freed-length : length T.freed ≡ freedLong Z
-  pub contacts-length : length T.contacts ≡ contactsLong Z
-  pub touches-length : length T.touches ≡ touchesLong Z
-  pub joints-length : length T.joints ≡ jointsLong Z
-  pub keys_length : length T.keys ≡ keysLong Z
-  pub spare-length : length T.spare ≡ spareLong Z
-  pub journal-length : length T.journal ≡ journalLong Z
-  pub scan-length : length T.scan ≡ scanLong Z
-  pub fit_length : length T.fit ≡ fitLong Z
+  pub head_length : length T.head ≡ head_span Z
+  pub slots_length : length T.slots ≡ slots_span Z
+  pub members_length : length T.members ≡ members_span Z
+  pub rows_length : length T.rows ≡ rows_span Z
+  pub freed_length : length T.freed ≡ freed_span Z
+  pub contacts_length : length T.contacts ≡ contacts_span Z
+  pub touches_length : length T.touches ≡ touches_span Z
+  pub joints_length : length T.joints ≡ joints_span Z
+  pub keys_length : length T.keys ≡ keys_span Z
+  pub spare_length : length T.spare ≡ spare_span Z
+  pub journal_length : length T.journal ≡ journal_span Z
+  pub scan_length : length T.scan ≡ scan_span Z
+  pub fit_length : length T.fit ≡ fit_span Z
 
 pub sized : (Z : Sizes) (t : List ℕ) → length t ≡ total Z → Sized Z (tables Z t)
 sized Z t l =
     record {
-      head-length = length_part t (headAt Z) (headLong Z) (omega arith);
-      slots_length = length_part t (slotsAt Z) (slotsLong Z) (omega arith);
-      members-length = length_part t (membersAt Z) (membersLong Z) (omega arith);
-      rows-length = length_part t (rows_at Z) (rowsLong Z) (omega arith);
-      freed-length = length_part t (freedAt Z) (freedLong Z) (omega arith);
-      contacts-length = length_part t (contactsAt Z) (contactsLong Z) (omega arith);
-      touches-length = length_part t (touchesAt Z) (touchesLong Z) (omega arith);
-      joints-length = length_part t (jointsAt Z) (jointsLong Z) (omega arith);
-      keys_length = length_part t (keysAt Z) (keysLong Z) (omega arith);
-      spare-length = length_part t (spareAt Z) (spareLong Z) (omega arith);
-      journal-length = length_part t (journalAt Z) (journalLong Z) (omega arith);
-      scan-length = length_part t (scanAt Z) (scanLong Z) (omega arith);
-      fit_length = length_part t (fitAt Z) (fitLong Z) (omega arith);
+      head_length = length_part t (head_at Z) (head_span Z) (omega arith);
+      slots_length = length_part t (slots_at Z) (slots_span Z) (omega arith);
+      members_length = length_part t (members_at Z) (members_span Z) (omega arith);
+      rows_length = length_part t (rows_at Z) (rows_span Z) (omega arith);
+      freed_length = length_part t (freed_at Z) (freed_span Z) (omega arith);
+      contacts_length = length_part t (contacts_at Z) (contacts_span Z) (omega arith);
+      touches_length = length_part t (touches_at Z) (touches_span Z) (omega arith);
+      joints_length = length_part t (joints_at Z) (joints_span Z) (omega arith);
+      keys_length = length_part t (keys_at Z) (keys_span Z) (omega arith);
+      spare_length = length_part t (spare_at Z) (spare_span Z) (omega arith);
+      journal_length = length_part t (journal_at Z) (journal_span Z) (omega arith);
+      scan_length = length_part t (scan_at Z) (scan_span Z) (omega arith);
+      fit_length = length_part t (fit_at Z) (fit_span Z) (omega arith);
     }
 
 module _ (Z : Sizes) (t t' ys : List ℕ) (long : length t ≡ total Z) where
-  pub put-head : Put (headAt Z) (headLong Z) t t' ys → tables Z t' ≡ head-put (tables Z t) ys
+  pub put-head : Put (head_at Z) (head_span Z) t t' ys → tables Z t' ≡ head_put (tables Z t) ys
   put-head P =
       rw (
         P.here,
-        P.apart (slotsAt Z) (slotsLong Z) (omega arith) (inr (omega arith)),
-        P.apart (membersAt Z) (membersLong Z) (omega arith) (inr (omega arith)),
-        P.apart (rows_at Z) (rowsLong Z) (omega arith) (inr (omega arith)),
-        P.apart (freedAt Z) (freedLong Z) (omega arith) (inr (omega arith)),
-        P.apart (contactsAt Z) (contactsLong Z) (omega arith) (inr (omega arith)),
-        P.apart (touchesAt Z) (touchesLong Z) (omega arith) (inr (omega arith)),
-        P.apart (jointsAt Z) (jointsLong Z) (omega arith) (inr (omega arith)),
-        P.apart (keysAt Z) (keysLong Z) (omega arith) (inr (omega arith)),
-        P.apart (spareAt Z) (spareLong Z) (omega arith) (inr (omega arith)),
-        P.apart (journalAt Z) (journalLong Z) (omega arith) (inr (omega arith)),
-        P.apart (scanAt Z) (scanLong Z) (omega arith) (inr (omega arith)),
-        P.apart (fitAt Z) (fitLong Z) (omega arith) (inr (omega arith)),
+        P.apart (slots_at Z) (slots_span Z) (omega arith) (inr (omega arith)),
+        P.apart (members_at Z) (members_span Z) (omega arith) (inr (omega arith)),
+        P.apart (rows_at Z) (rows_span Z) (omega arith) (inr (omega arith)),
+        P.apart (freed_at Z) (freed_span Z) (omega arith) (inr (omega arith)),
+        P.apart (contacts_at Z) (contacts_span Z) (omega arith) (inr (omega arith)),
+        P.apart (touches_at Z) (touches_span Z) (omega arith) (inr (omega arith)),
+        P.apart (joints_at Z) (joints_span Z) (omega arith) (inr (omega arith)),
+        P.apart (keys_at Z) (keys_span Z) (omega arith) (inr (omega arith)),
+        P.apart (spare_at Z) (spare_span Z) (omega arith) (inr (omega arith)),
+        P.apart (journal_at Z) (journal_span Z) (omega arith) (inr (omega arith)),
+        P.apart (scan_at Z) (scan_span Z) (omega arith) (inr (omega arith)),
+        P.apart (fit_at Z) (fit_span Z) (omega arith) (inr (omega arith)),
       )
 
-  pub put-slots : Put (slotsAt Z) (slotsLong Z) t t' ys → tables Z t' ≡ slots-put (tables Z t) ys
+  pub put-slots : Put (slots_at Z) (slots_span Z) t t' ys → tables Z t' ≡ slots_put (tables Z t) ys
   put-slots P =
       rw (
-        P.apart (headAt Z) (headLong Z) (omega arith) (inl (omega arith)),
+        P.apart (head_at Z) (head_span Z) (omega arith) (inl (omega arith)),
         P.here,
-        P.apart (membersAt Z) (membersLong Z) (omega arith) (inr (omega arith)),
-        P.apart (rows_at Z) (rowsLong Z) (omega arith) (inr (omega arith)),
-        P.apart (freedAt Z) (freedLong Z) (omega arith) (inr (omega arith)),
-        P.apart (contactsAt Z) (contactsLong Z) (omega arith) (inr (omega arith)),
-        P.apart (touchesAt Z) (touchesLong Z) (omega arith) (inr (omega arith)),
-        P.apart (jointsAt Z) (jointsLong Z) (omega arith) (inr (omega arith)),
-        P.apart (keysAt Z) (keysLong Z) (omega arith) (inr (omega arith)),
-        P.apart (spareAt Z) (spareLong Z) (omega arith) (inr (omega arith)),
-        P.apart (journalAt Z) (journalLong Z) (omega arith) (inr (omega arith)),
-        P.apart (scanAt Z) (scanLong Z) (omega arith) (inr (omega arith)),
-        P.apart (fitAt Z) (fitLong Z) (omega arith) (inr (omega arith)),
+        P.apart (members_at Z) (members_span Z) (omega arith) (inr (omega arith)),
+        P.apart (rows_at Z) (rows_span Z) (omega arith) (inr (omega arith)),
+        P.apart (freed_at Z) (freed_span Z) (omega arith) (inr (omega arith)),
+        P.apart (contacts_at Z) (contacts_span Z) (omega arith) (inr (omega arith)),
+        P.apart (touches_at Z) (touches_span Z) (omega arith) (inr (omega arith)),
+        P.apart (joints_at Z) (joints_span Z) (omega arith) (inr (omega arith)),
+        P.apart (keys_at Z) (keys_span Z) (omega arith) (inr (omega arith)),
+        P.apart (spare_at Z) (spare_span Z) (omega arith) (inr (omega arith)),
+        P.apart (journal_at Z) (journal_span Z) (omega arith) (inr (omega arith)),
+        P.apart (scan_at Z) (scan_span Z) (omega arith) (inr (omega arith)),
+        P.apart (fit_at Z) (fit_span Z) (omega arith) (inr (omega arith)),
       )
 
-  pub put-members : Put (membersAt Z) (membersLong Z) t t' ys → tables Z t' ≡ members-put (tables Z t) ys
+  pub put-members : Put (members_at Z) (members_span Z) t t' ys → tables Z t' ≡ members_put (tables Z t) ys
   put-members P =
       rw (
-        P.apart (headAt Z) (headLong Z) (omega arith) (inl (omega arith)),
-        P.apart (slotsAt Z) (slotsLong Z) (omega arith) (inl (omega arith)),
+        P.apart (head_at Z) (head_span Z) (omega arith) (inl (omega arith)),
+        P.apart (slots_at Z) (slots_span Z) (omega arith) (inl (omega arith)),
         P.here,
-        P.apart (rows_at Z) (rowsLong Z) (omega arith) (inr (omega arith)),
-        P.apart (freedAt Z) (freedLong Z) (omega arith) (inr (omega arith)),
-        P.apart (contactsAt Z) (contactsLong Z) (omega arith) (inr (omega arith)),
-        P.apart (touchesAt Z) (touchesLong Z) (omega arith) (inr (omega arith)),
-        P.apart (jointsAt Z) (jointsLong Z) (omega arith) (inr (omega arith)),
-        P.apart (keysAt Z) (keysLong Z) (omega arith) (inr (omega arith)),
-        P.apart (spareAt Z) (spareLong Z) (omega arith) (inr (omega arith)),
-        P.apart (journalAt Z) (journalLong Z) (omega arith) (inr (omega arith)),
-        P.apart (scanAt Z) (scanLong Z) (omega arith) (inr (omega arith)),
-        P.apart (fitAt Z) (fitLong Z) (omega arith) (inr (omega arith)),
+        P.apart (rows_at Z) (rows_span Z) (omega arith) (inr (omega arith)),
+        P.apart (freed_at Z) (freed_span Z) (omega arith) (inr (omega arith)),
+        P.apart (contacts_at Z) (contacts_span Z) (omega arith) (inr (omega arith)),
+        P.apart (touches_at Z) (touches_span Z) (omega arith) (inr (omega arith)),
+        P.apart (joints_at Z) (joints_span Z) (omega arith) (inr (omega arith)),
+        P.apart (keys_at Z) (keys_span Z) (omega arith) (inr (omega arith)),
+        P.apart (spare_at Z) (spare_span Z) (omega arith) (inr (omega arith)),
+        P.apart (journal_at Z) (journal_span Z) (omega arith) (inr (omega arith)),
+        P.apart (scan_at Z) (scan_span Z) (omega arith) (inr (omega arith)),
+        P.apart (fit_at Z) (fit_span Z) (omega arith) (inr (omega arith)),
       )
 
-  pub put-rows : Put (rows_at Z) (rowsLong Z) t t' ys → tables Z t' ≡ rows-put (tables Z t) ys
+  pub put-rows : Put (rows_at Z) (rows_span Z) t t' ys → tables Z t' ≡ rows_put (tables Z t) ys
   put-rows P =
       rw (
-        P.apart (headAt Z) (headLong Z) (omega arith) (inl (omega arith)),
-        P.apart (slotsAt Z) (slotsLong Z) (omega arith) (inl (omega arith)),
-        P.apart (membersAt Z) (membersLong Z) (omega arith) (inl (omega arith)),
+        P.apart (head_at Z) (head_span Z) (omega arith) (inl (omega arith)),
+        P.apart (slots_at Z) (slots_span Z) (omega arith) (inl (omega arith)),
+        P.apart (members_at Z) (members_span Z) (omega arith) (inl (omega arith)),
         P.here,
-        P.apart (freedAt Z) (freedLong Z) (omega arith) (inr (omega arith)),
-        P.apart (contactsAt Z) (contactsLong Z) (omega arith) (inr (omega arith)),
-        P.apart (touchesAt Z) (touchesLong Z) (omega arith) (inr (omega arith)),
-        P.apart (jointsAt Z) (jointsLong Z) (omega arith) (inr (omega arith)),
-        P.apart (keysAt Z) (keysLong Z) (omega arith) (inr (omega arith)),
-        P.apart (spareAt Z) (spareLong Z) (omega arith) (inr (omega arith)),
-        P.apart (journalAt Z) (journalLong Z) (omega arith) (inr (omega arith)),
-        P.apart (scanAt Z) (scanLong Z) (omega arith) (inr (omega arith)),
-        P.apart (fitAt Z) (fitLong Z) (omega arith) (inr (omega arith)),
+        P.apart (freed_at Z) (freed_span Z) (omega arith) (inr (omega arith)),
+        P.apart (contacts_at Z) (contacts_span Z) (omega arith) (inr (omega arith)),
+        P.apart (touches_at Z) (touches_span Z) (omega arith) (inr (omega arith)),
+        P.apart (joints_at Z) (joints_span Z) (omega arith) (inr (omega arith)),
+        P.apart (keys_at Z) (keys_span Z) (omega arith) (inr (omega arith)),
+        P.apart (spare_at Z) (spare_span Z) (omega arith) (inr (omega arith)),
+        P.apart (journal_at Z) (journal_span Z) (omega arith) (inr (omega arith)),
+        P.apart (scan_at Z) (scan_span Z) (omega arith) (inr (omega arith)),
+        P.apart (fit_at Z) (fit_span Z) (omega arith) (inr (omega arith)),
       )
 
-  pub put-freed : Put (freedAt Z) (freedLong Z) t t' ys → tables Z t' ≡ freed-put (tables Z t) ys
+  pub put-freed : Put (freed_at Z) (freed_span Z) t t' ys → tables Z t' ≡ freed_put (tables Z t) ys
   put-freed P =
       rw (
-        P.apart (headAt Z) (headLong Z) (omega arith) (inl (omega arith)),
-        P.apart (slotsAt Z) (slotsLong Z) (omega arith) (inl (omega arith)),
-        P.apart (membersAt Z) (membersLong Z) (omega arith) (inl (omega arith)),
-        P.apart (rows_at Z) (rowsLong Z) (omega arith) (inl (omega arith)),
+        P.apart (head_at Z) (head_span Z) (omega arith) (inl (omega arith)),
+        P.apart (slots_at Z) (slots_span Z) (omega arith) (inl (omega arith)),
+        P.apart (members_at Z) (members_span Z) (omega arith) (inl (omega arith)),
+        P.apart (rows_at Z) (rows_span Z) (omega arith) (inl (omega arith)),
         P.here,
-        P.apart (contactsAt Z) (contactsLong Z) (omega arith) (inr (omega arith)),
-        P.apart (touchesAt Z) (touchesLong Z) (omega arith) (inr (omega arith)),
-        P.apart (jointsAt Z) (jointsLong Z) (omega arith) (inr (omega arith)),
-        P.apart (keysAt Z) (keysLong Z) (omega arith) (inr (omega arith)),
-        P.apart (spareAt Z) (spareLong Z) (omega arith) (inr (omega arith)),
-        P.apart (journalAt Z) (journalLong Z) (omega arith) (inr (omega arith)),
-        P.apart (scanAt Z) (scanLong Z) (omega arith) (inr (omega arith)),
-        P.apart (fitAt Z) (fitLong Z) (omega arith) (inr (omega arith)),
+        P.apart (contacts_at Z) (contacts_span Z) (omega arith) (inr (omega arith)),
+        P.apart (touches_at Z) (touches_span Z) (omega arith) (inr (omega arith)),
+        P.apart (joints_at Z) (joints_span Z) (omega arith) (inr (omega arith)),
+        P.apart (keys_at Z) (keys_span Z) (omega arith) (inr (omega arith)),
+        P.apart (spare_at Z) (spare_span Z) (omega arith) (inr (omega arith)),
+        P.apart (journal_at Z) (journal_span Z) (omega arith) (inr (omega arith)),
+        P.apart (scan_at Z) (scan_span Z) (omega arith) (inr (omega arith)),
+        P.apart (fit_at Z) (fit_span Z) (omega arith) (inr (omega arith)),
       )
 
-  pub put-contacts : Put (contactsAt Z) (contactsLong Z) t t' ys → tables Z t' ≡ contacts-put (tables Z t) ys
+  pub put-contacts : Put (contacts_at Z) (contacts_span Z) t t' ys → tables Z t' ≡ contacts_put (tables Z t) ys
   put-contacts P =
       rw (
-        P.apart (headAt Z) (headLong Z) (omega arith) (inl (omega arith)),
-        P.apart (slotsAt Z) (slotsLong Z) (omega arith) (inl (omega arith)),
-        P.apart (membersAt Z) (membersLong Z) (omega arith) (inl (omega arith)),
-        P.apart (rows_at Z) (rowsLong Z) (omega arith) (inl (omega arith)),
-        P.apart (freedAt Z) (freedLong Z) (omega arith) (inl (omega arith)),
+        P.apart (head_at Z) (head_span Z) (omega arith) (inl (omega arith)),
+        P.apart (slots_at Z) (slots_span Z) (omega arith) (inl (omega arith)),
+        P.apart (members_at Z) (members_span Z) (omega arith) (inl (omega arith)),
+        P.apart (rows_at Z) (rows_span Z) (omega arith) (inl (omega arith)),
+        P.apart (freed_at Z) (freed_span Z) (omega arith) (inl (omega arith)),
         P.here,
-        P.apart (touchesAt Z) (touchesLong Z) (omega arith) (inr (omega arith)),
-        P.apart (jointsAt Z) (jointsLong Z) (omega arith) (inr (omega arith)),
-        P.apart (keysAt Z) (keysLong Z) (omega arith) (inr (omega arith)),
-        P.apart (spareAt Z) (spareLong Z) (omega arith) (inr (omega arith)),
-        P.apart (journalAt Z) (journalLong Z) (omega arith) (inr (omega arith)),
-        P.apart (scanAt Z) (scanLong Z) (omega arith) (inr (omega arith)),
-        P.apart (fitAt Z) (fitLong Z) (omega arith) (inr (omega arith)),
+        P.apart (touches_at Z) (touches_span Z) (omega arith) (inr (omega arith)),
+        P.apart (joints_at Z) (joints_span Z) (omega arith) (inr (omega arith)),
+        P.apart (keys_at Z) (keys_span Z) (omega arith) (inr (omega arith)),
+        P.apart (spare_at Z) (spare_span Z) (omega arith) (inr (omega arith)),
+        P.apart (journal_at Z) (journal_span Z) (omega arith) (inr (omega arith)),
+        P.apart (scan_at Z) (scan_span Z) (omega arith) (inr (omega arith)),
+        P.apart (fit_at Z) (fit_span Z) (omega arith) (inr (omega arith)),
       )
 
-  pub put-touches : Put (touchesAt Z) (touchesLong Z) t t' ys → tables Z t' ≡ touches-put (tables Z t) ys
+  pub put-touches : Put (touches_at Z) (touches_span Z) t t' ys → tables Z t' ≡ touches_put (tables Z t) ys
   put-touches P =
       rw (
-        P.apart (headAt Z) (headLong Z) (omega arith) (inl (omega arith)),
-        P.apart (slotsAt Z) (slotsLong Z) (omega arith) (inl (omega arith)),
-        P.apart (membersAt Z) (membersLong Z) (omega arith) (inl (omega arith)),
-        P.apart (rows_at Z) (rowsLong Z) (omega arith) (inl (omega arith)),
-        P.apart (freedAt Z) (freedLong Z) (omega arith) (inl (omega arith)),
-        P.apart (contactsAt Z) (contactsLong Z) (omega arith) (inl (omega arith)),
+        P.apart (head_at Z) (head_span Z) (omega arith) (inl (omega arith)),
+        P.apart (slots_at Z) (slots_span Z) (omega arith) (inl (omega arith)),
+        P.apart (members_at Z) (members_span Z) (omega arith) (inl (omega arith)),
+        P.apart (rows_at Z) (rows_span Z) (omega arith) (inl (omega arith)),
+        P.apart (freed_at Z) (freed_span Z) (omega arith) (inl (omega arith)),
+        P.apart (contacts_at Z) (contacts_span Z) (omega arith) (inl (omega arith)),
         P.here,
-        P.apart (jointsAt Z) (jointsLong Z) (omega arith) (inr (omega arith)),
-        P.apart (keysAt Z) (keysLong Z) (omega arith) (inr (omega arith)),
-        P.apart (spareAt Z) (spareLong Z) (omega arith) (inr (omega arith)),
-        P.apart (journalAt Z) (journalLong Z) (omega arith) (inr (omega arith)),
-        P.apart (scanAt Z) (scanLong Z) (omega arith) (inr (omega arith)),
-        P.apart (fitAt Z) (fitLong Z) (omega arith) (inr (omega arith)),
+        P.apart (joints_at Z) (joints_span Z) (omega arith) (inr (omega arith)),
+        P.apart (keys_at Z) (keys_span Z) (omega arith) (inr (omega arith)),
+        P.apart (spare_at Z) (spare_span Z) (omega arith) (inr (omega arith)),
+        P.apart (journal_at Z) (journal_span Z) (omega arith) (inr (omega arith)),
+        P.apart (scan_at Z) (scan_span Z) (omega arith) (inr (omega arith)),
+        P.apart (fit_at Z) (fit_span Z) (omega arith) (inr (omega arith)),
       )
 
-  pub put-joints : Put (jointsAt Z) (jointsLong Z) t t' ys → tables Z t' ≡ joints-put (tables Z t) ys
+  pub put-joints : Put (joints_at Z) (joints_span Z) t t' ys → tables Z t' ≡ joints_put (tables Z t) ys
   put-joints P =
       rw (
-        P.apart (headAt Z) (headLong Z) (omega arith) (inl (omega arith)),
-        P.apart (slotsAt Z) (slotsLong Z) (omega arith) (inl (omega arith)),
-        P.apart (membersAt Z) (membersLong Z) (omega arith) (inl (omega arith)),
-        P.apart (rows_at Z) (rowsLong Z) (omega arith) (inl (omega arith)),
-        P.apart (freedAt Z) (freedLong Z) (omega arith) (inl (omega arith)),
-        P.apart (contactsAt Z) (contactsLong Z) (omega arith) (inl (omega arith)),
-        P.apart (touchesAt Z) (touchesLong Z) (omega arith) (inl (omega arith)),
+        P.apart (head_at Z) (head_span Z) (omega arith) (inl (omega arith)),
+        P.apart (slots_at Z) (slots_span Z) (omega arith) (inl (omega arith)),
+        P.apart (members_at Z) (members_span Z) (omega arith) (inl (omega arith)),
+        P.apart (rows_at Z) (rows_span Z) (omega arith) (inl (omega arith)),
+        P.apart (freed_at Z) (freed_span Z) (omega arith) (inl (omega arith)),
+        P.apart (contacts_at Z) (contacts_span Z) (omega arith) (inl (omega arith)),
+        P.apart (touches_at Z) (touches_span Z) (omega arith) (inl (omega arith)),
         P.here,
-        P.apart (keysAt Z) (keysLong Z) (omega arith) (inr (omega arith)),
-        P.apart (spareAt Z) (spareLong Z) (omega arith) (inr (omega arith)),
-        P.apart (journalAt Z) (journalLong Z) (omega arith) (inr (omega arith)),
-        P.apart (scanAt Z) (scanLong Z) (omega arith) (inr (omega arith)),
-        P.apart (fitAt Z) (fitLong Z) (omega arith) (inr (omega arith)),
+        P.apart (keys_at Z) (keys_span Z) (omega arith) (inr (omega arith)),
+        P.apart (spare_at Z) (spare_span Z) (omega arith) (inr (omega arith)),
+        P.apart (journal_at Z) (journal_span Z) (omega arith) (inr (omega arith)),
+        P.apart (scan_at Z) (scan_span Z) (omega arith) (inr (omega arith)),
+        P.apart (fit_at Z) (fit_span Z) (omega arith) (inr (omega arith)),
       )
 
-  pub put-keys : Put (keysAt Z) (keysLong Z) t t' ys → tables Z t' ≡ keys-put (tables Z t) ys
+  pub put-keys : Put (keys_at Z) (keys_span Z) t t' ys → tables Z t' ≡ keys_put (tables Z t) ys
   put-keys P =
       rw (
-        P.apart (headAt Z) (headLong Z) (omega arith) (inl (omega arith)),
-        P.apart (slotsAt Z) (slotsLong Z) (omega arith) (inl (omega arith)),
-        P.apart (membersAt Z) (membersLong Z) (omega arith) (inl (omega arith)),
-        P.apart (rows_at Z) (rowsLong Z) (omega arith) (inl (omega arith)),
-        P.apart (freedAt Z) (freedLong Z) (omega arith) (inl (omega arith)),
-        P.apart (contactsAt Z) (contactsLong Z) (omega arith) (inl (omega arith)),
-        P.apart (touchesAt Z) (touchesLong Z) (omega arith) (inl (omega arith)),
-        P.apart (jointsAt Z) (jointsLong Z) (omega arith) (inl (omega arith)),
+        P.apart (head_at Z) (head_span Z) (omega arith) (inl (omega arith)),
+        P.apart (slots_at Z) (slots_span Z) (omega arith) (inl (omega arith)),
+        P.apart (members_at Z) (members_span Z) (omega arith) (inl (omega arith)),
+        P.apart (rows_at Z) (rows_span Z) (omega arith) (inl (omega arith)),
+        P.apart (freed_at Z) (freed_span Z) (omega arith) (inl (omega arith)),
+        P.apart (contacts_at Z) (contacts_span Z) (omega arith) (inl (omega arith)),
+        P.apart (touches_at Z) (touches_span Z) (omega arith) (inl (omega arith)),
+        P.apart (joints_at Z) (joints_span Z) (omega arith) (inl (omega arith)),
         P.here,
-        P.apart (spareAt Z) (spareLong Z) (omega arith) (inr (omega arith)),
-        P.apart (journalAt Z) (journalLong Z) (omega arith) (inr (omega arith)),
-        P.apart (scanAt Z) (scanLong Z) (omega arith) (inr (omega arith)),
-        P.apart (fitAt Z) (fitLong Z) (omega arith) (inr (omega arith)),
+        P.apart (spare_at Z) (spare_span Z) (omega arith) (inr (omega arith)),
+        P.apart (journal_at Z) (journal_span Z) (omega arith) (inr (omega arith)),
+        P.apart (scan_at Z) (scan_span Z) (omega arith) (inr (omega arith)),
+        P.apart (fit_at Z) (fit_span Z) (omega arith) (inr (omega arith)),
       )
 
-  pub put-spare : Put (spareAt Z) (spareLong Z) t t' ys → tables Z t' ≡ spare-put (tables Z t) ys
+  pub put-spare : Put (spare_at Z) (spare_span Z) t t' ys → tables Z t' ≡ spare_put (tables Z t) ys
   put-spare P =
       rw (
-        P.apart (headAt Z) (headLong Z) (omega arith) (inl (omega arith)),
-        P.apart (slotsAt Z) (slotsLong Z) (omega arith) (inl (omega arith)),
-        P.apart (membersAt Z) (membersLong Z) (omega arith) (inl (omega arith)),
-        P.apart (rows_at Z) (rowsLong Z) (omega arith) (inl (omega arith)),
-        P.apart (freedAt Z) (freedLong Z) (omega arith) (inl (omega arith)),
-        P.apart (contactsAt Z) (contactsLong Z) (omega arith) (inl (omega arith)),
-        P.apart (touchesAt Z) (touchesLong Z) (omega arith) (inl (omega arith)),
-        P.apart (jointsAt Z) (jointsLong Z) (omega arith) (inl (omega arith)),
-        P.apart (keysAt Z) (keysLong Z) (omega arith) (inl (omega arith)),
+        P.apart (head_at Z) (head_span Z) (omega arith) (inl (omega arith)),
+        P.apart (slots_at Z) (slots_span Z) (omega arith) (inl (omega arith)),
+        P.apart (members_at Z) (members_span Z) (omega arith) (inl (omega arith)),
+        P.apart (rows_at Z) (rows_span Z) (omega arith) (inl (omega arith)),
+        P.apart (freed_at Z) (freed_span Z) (omega arith) (inl (omega arith)),
+        P.apart (contacts_at Z) (contacts_span Z) (omega arith) (inl (omega arith)),
+        P.apart (touches_at Z) (touches_span Z) (omega arith) (inl (omega arith)),
+        P.apart (joints_at Z) (joints_span Z) (omega arith) (inl (omega arith)),
+        P.apart (keys_at Z) (keys_span Z) (omega arith) (inl (omega arith)),
         P.here,
-        P.apart (journalAt Z) (journalLong Z) (omega arith) (inr (omega arith)),
-        P.apart (scanAt Z) (scanLong Z) (omega arith) (inr (omega arith)),
-        P.apart (fitAt Z) (fitLong Z) (omega arith) (inr (omega arith)),
+        P.apart (journal_at Z) (journal_span Z) (omega arith) (inr (omega arith)),
+        P.apart (scan_at Z) (scan_span Z) (omega arith) (inr (omega arith)),
+        P.apart (fit_at Z) (fit_span Z) (omega arith) (inr (omega arith)),
       )
 
-  pub put-journal : Put (journalAt Z) (journalLong Z) t t' ys → tables Z t' ≡ journal-put (tables Z t) ys
+  pub put-journal : Put (journal_at Z) (journal_span Z) t t' ys → tables Z t' ≡ journal_put (tables Z t) ys
   put-journal P =
       rw (
-        P.apart (headAt Z) (headLong Z) (omega arith) (inl (omega arith)),
-        P.apart (slotsAt Z) (slotsLong Z) (omega arith) (inl (omega arith)),
-        P.apart (membersAt Z) (membersLong Z) (omega arith) (inl (omega arith)),
-        P.apart (rows_at Z) (rowsLong Z) (omega arith) (inl (omega arith)),
-        P.apart (freedAt Z) (freedLong Z) (omega arith) (inl (omega arith)),
-        P.apart (contactsAt Z) (contactsLong Z) (omega arith) (inl (omega arith)),
-        P.apart (touchesAt Z) (touchesLong Z) (omega arith) (inl (omega arith)),
-        P.apart (jointsAt Z) (jointsLong Z) (omega arith) (inl (omega arith)),
-        P.apart (keysAt Z) (keysLong Z) (omega arith) (inl (omega arith)),
-        P.apart (spareAt Z) (spareLong Z) (omega arith) (inl (omega arith)),
+        P.apart (head_at Z) (head_span Z) (omega arith) (inl (omega arith)),
+        P.apart (slots_at Z) (slots_span Z) (omega arith) (inl (omega arith)),
+        P.apart (members_at Z) (members_span Z) (omega arith) (inl (omega arith)),
+        P.apart (rows_at Z) (rows_span Z) (omega arith) (inl (omega arith)),
+        P.apart (freed_at Z) (freed_span Z) (omega arith) (inl (omega arith)),
+        P.apart (contacts_at Z) (contacts_span Z) (omega arith) (inl (omega arith)),
+        P.apart (touches_at Z) (touches_span Z) (omega arith) (inl (omega arith)),
+        P.apart (joints_at Z) (joints_span Z) (omega arith) (inl (omega arith)),
+        P.apart (keys_at Z) (keys_span Z) (omega arith) (inl (omega arith)),
+        P.apart (spare_at Z) (spare_span Z) (omega arith) (inl (omega arith)),
         P.here,
-        P.apart (scanAt Z) (scanLong Z) (omega arith) (inr (omega arith)),
-        P.apart (fitAt Z) (fitLong Z) (omega arith) (inr (omega arith)),
+        P.apart (scan_at Z) (scan_span Z) (omega arith) (inr (omega arith)),
+        P.apart (fit_at Z) (fit_span Z) (omega arith) (inr (omega arith)),
       )
 
-  pub put-scan : Put (scanAt Z) (scanLong Z) t t' ys → tables Z t' ≡ scan-put (tables Z t) ys
+  pub put-scan : Put (scan_at Z) (scan_span Z) t t' ys → tables Z t' ≡ scan_put (tables Z t) ys
   put-scan P =
       rw (
-        P.apart (headAt Z) (headLong Z) (omega arith) (inl (omega arith)),
-        P.apart (slotsAt Z) (slotsLong Z) (omega arith) (inl (omega arith)),
-        P.apart (membersAt Z) (membersLong Z) (omega arith) (inl (omega arith)),
-        P.apart (rows_at Z) (rowsLong Z) (omega arith) (inl (omega arith)),
-        P.apart (freedAt Z) (freedLong Z) (omega arith) (inl (omega arith)),
-        P.apart (contactsAt Z) (contactsLong Z) (omega arith) (inl (omega arith)),
-        P.apart (touchesAt Z) (touchesLong Z) (omega arith) (inl (omega arith)),
-        P.apart (jointsAt Z) (jointsLong Z) (omega arith) (inl (omega arith)),
-        P.apart (keysAt Z) (keysLong Z) (omega arith) (inl (omega arith)),
-        P.apart (spareAt Z) (spareLong Z) (omega arith) (inl (omega arith)),
-        P.apart (journalAt Z) (journalLong Z) (omega arith) (inl (omega arith)),
+        P.apart (head_at Z) (head_span Z) (omega arith) (inl (omega arith)),
+        P.apart (slots_at Z) (slots_span Z) (omega arith) (inl (omega arith)),
+        P.apart (members_at Z) (members_span Z) (omega arith) (inl (omega arith)),
+        P.apart (rows_at Z) (rows_span Z) (omega arith) (inl (omega arith)),
+        P.apart (freed_at Z) (freed_span Z) (omega arith) (inl (omega arith)),
+        P.apart (contacts_at Z) (contacts_span Z) (omega arith) (inl (omega arith)),
+        P.apart (touches_at Z) (touches_span Z) (omega arith) (inl (omega arith)),
+        P.apart (joints_at Z) (joints_span Z) (omega arith) (inl (omega arith)),
+        P.apart (keys_at Z) (keys_span Z) (omega arith) (inl (omega arith)),
+        P.apart (spare_at Z) (spare_span Z) (omega arith) (inl (omega arith)),
+        P.apart (journal_at Z) (journal_span Z) (omega arith) (inl (omega arith)),
         P.here,
-        P.apart (fitAt Z) (fitLong Z) (omega arith) (inr (omega arith)),
+        P.apart (fit_at Z) (fit_span Z) (omega arith) (inr (omega arith)),
       )
 
-  pub put_fit : Put (fitAt Z) (fitLong Z) t t' ys → tables Z t' ≡ fit-put (tables Z t) ys
+  pub put_fit : Put (fit_at Z) (fit_span Z) t t' ys → tables Z t' ≡ fit_put (tables Z t) ys
   put_fit P =
       rw (
-        P.apart (headAt Z) (headLong Z) (omega arith) (inl (omega arith)),
-        P.apart (slotsAt Z) (slotsLong Z) (omega arith) (inl (omega arith)),
-        P.apart (membersAt Z) (membersLong Z) (omega arith) (inl (omega arith)),
-        P.apart (rows_at Z) (rowsLong Z) (omega arith) (inl (omega arith)),
-        P.apart (freedAt Z) (freedLong Z) (omega arith) (inl (omega arith)),
-        P.apart (contactsAt Z) (contactsLong Z) (omega arith) (inl (omega arith)),
-        P.apart (touchesAt Z) (touchesLong Z) (omega arith) (inl (omega arith)),
-        P.apart (jointsAt Z) (jointsLong Z) (omega arith) (inl (omega arith)),
-        P.apart (keysAt Z) (keysLong Z) (omega arith) (inl (omega arith)),
-        P.apart (spareAt Z) (spareLong Z) (omega arith) (inl (omega arith)),
-        P.apart (journalAt Z) (journalLong Z) (omega arith) (inl (omega arith)),
-        P.apart (scanAt Z) (scanLong Z) (omega arith) (inl (omega arith)),
+        P.apart (head_at Z) (head_span Z) (omega arith) (inl (omega arith)),
+        P.apart (slots_at Z) (slots_span Z) (omega arith) (inl (omega arith)),
+        P.apart (members_at Z) (members_span Z) (omega arith) (inl (omega arith)),
+        P.apart (rows_at Z) (rows_span Z) (omega arith) (inl (omega arith)),
+        P.apart (freed_at Z) (freed_span Z) (omega arith) (inl (omega arith)),
+        P.apart (contacts_at Z) (contacts_span Z) (omega arith) (inl (omega arith)),
+        P.apart (touches_at Z) (touches_span Z) (omega arith) (inl (omega arith)),
+        P.apart (joints_at Z) (joints_span Z) (omega arith) (inl (omega arith)),
+        P.apart (keys_at Z) (keys_span Z) (omega arith) (inl (omega arith)),
+        P.apart (spare_at Z) (spare_span Z) (omega arith) (inl (omega arith)),
+        P.apart (journal_at Z) (journal_span Z) (omega arith) (inl (omega arith)),
+        P.apart (scan_at Z) (scan_span Z) (omega arith) (inl (omega arith)),
         P.here,
       )
 
   -- whichever it was
-  pub put-table : (k : Table) → Put (table_at Z k) (tableLong Z k) t t' ys → tables Z t' ≡ tablePut k (tables Z t) ys
+  pub put-table : (k : Table) → Put (table_at Z k) (table_span Z k) t t' ys → tables Z t' ≡ table_put k (tables Z t) ys
   put-table Head P = put-head P
   put-table Slots P = put-slots P
   put-table Members P = put-members P
@@ -298,7 +298,7 @@ module _ (Z : Sizes) (t t' ys : List ℕ) (long : length t ≡ total Z) where
   put-table Fit P = put_fit P
 
 -- a table lies in the buffer; the words of its elements and of its lists lie in it; and what it is a part of
-pub inside : (Z : Sizes) (k : Table) → table_at Z k + tableLong Z k ≤ total Z
+pub inside : (Z : Sizes) (k : Table) → table_at Z k + table_span Z k ≤ total Z
 inside Z Head = omega arith
 inside Z Slots = omega arith
 inside Z Members = omega arith
@@ -313,7 +313,7 @@ inside Z Journal = omega arith
 inside Z Scan = omega arith
 inside Z Fit = omega arith
 
-pub part-is : (Z : Sizes) (k : Table) (t : List ℕ) → part t (table_at Z k) (tableLong Z k) ≡ table_of k (tables Z t)
+pub part-is : (Z : Sizes) (k : Table) (t : List ℕ) → part t (table_at Z k) (table_span Z k) ≡ table_of k (tables Z t)
 part-is Z Head t = refl
 part-is Z Slots t = refl
 part-is Z Members t = refl
@@ -328,7 +328,7 @@ part-is Z Journal t = refl
 part-is Z Scan t = refl
 part-is Z Fit t = refl
 
-pub chain-long : (Z : Sizes) (k : Table) → 4 * room Z k + 2 * listRoom Z k ≤ tableLong Z k
+pub chain-long : (Z : Sizes) (k : Table) → 4 * room Z k + 2 * list_room Z k ≤ table_span Z k
 chain-long Z Head = omega arith
 chain-long Z Slots = omega arith
 chain-long Z Members = omega arith

@@ -18,9 +18,9 @@ use Rattle.list_in_buffer.specs.Part.{part}
 use Rattle.list_in_buffer.proofs.Laws.{part-get}
 use Rattle.def_kinds.specs.declared.Sizes.{Sizes}
 use Rattle.def_kinds.specs.declared.Answer.{Answer}
-use Rattle.def_state.specs.World.{Handle, Body, noBody, impulse, chain, ContactLink, JointLink, Island, noIsland, Removal, Observed, World, Step}
-use Rattle.table_meaning.specs.Layout.{Tables, tables, total, Extents, extents, contacts-in, joints-in, scan-in, headAt, headLong, slotsAt, slotsLong, membersAt, membersLong, rows_at, rowsLong, freedAt, freedLong, contactsAt, contactsLong, touchesAt, touchesLong, jointsAt, jointsLong, keysAt, keysLong, spareAt, spareLong, journalAt, journalLong, scanAt, scanLong, fitAt, fitLong}
-use Rattle.table_meaning.specs.Decode.{flag, handleAt, body_at, contactAt, key_of, jointAt, removalAt, observedAt, islandIn, pending, decode, worldOf}
+use Rattle.def_state.specs.World.{Handle, Body, absent_body, impulse, chain, ContactLink, JointLink, Island, absent_island, Removal, Observed, World, Step}
+use Rattle.table_meaning.specs.Layout.{Tables, tables, total, Extents, extents, contacts_in, joints_in, scan_in, head_at, head_span, slots_at, slots_span, members_at, members_span, rows_at, rows_span, freed_at, freed_span, contacts_at, contacts_span, touches_at, touches_span, joints_at, joints_span, keys_at, keys_span, spare_at, spare_span, journal_at, journal_span, scan_at, scan_span, fit_at, fit_span}
+use Rattle.table_meaning.specs.Decode.{flag, handle_at, body_at, contact_at, key_of, joint_at, removal_at, observed_at, island_in, pending, decode, world_of}
 use Rattle.table_meaning.specs.Rule.{SlotRule, IslandRule, ScanRule, EdgeRule, JointRule, HeadRule}
 use Rattle.table_meaning.specs.Sound.{Good, Sound}
 use Rattle.table_meaning.specs.Does.{RowsKept, ChainKept, SameBehind, Does, Called, Asks, Reset}
@@ -31,33 +31,33 @@ use Rattle.table_meaning.proofs.Frame.{kept-both, extents-is}
 -- ---- the extents, read off the state
 
 module _ (Z : Sizes) (t : List ℕ) where
-  pub slots-is : length (worldOf Z t).bodies ≡ (extents (tables Z t)).slots
-  unfolding worldOf
+  pub slots-is : length (world_of Z t).bodies ≡ (extents (tables Z t)).slots
+  unfolding world_of
   slots-is = length-tabulate (extents (tables Z t)).slots (body_at (tables Z t).slots)
 
-  pub islands-is : length (worldOf Z t).islands ≡ (extents (tables Z t)).islands
-  unfolding worldOf
-  islands-is = length-tabulate (extents (tables Z t)).islands (islandIn Z (tables Z t))
+  pub islands-is : length (world_of Z t).islands ≡ (extents (tables Z t)).islands
+  unfolding world_of
+  islands-is = length-tabulate (extents (tables Z t)).islands (island_in Z (tables Z t))
 
-  pub tracked-is : (worldOf Z t).tracked ≡ (extents (tables Z t)).edges
-  unfolding worldOf
+  pub tracked-is : (world_of Z t).tracked ≡ (extents (tables Z t)).edges
+  unfolding world_of
   tracked-is = refl
 
-  pub places_is : (worldOf Z t).joint-places ≡ (extents (tables Z t)).joints
-  unfolding worldOf
+  pub places_is : (world_of Z t).joint_places ≡ (extents (tables Z t)).joints
+  unfolding world_of
   places_is = refl
 
-  pub journal-is : length (worldOf Z t).removal-journal ≡ (extents (tables Z t)).journal
-  unfolding worldOf
-  journal-is = length-tabulate (extents (tables Z t)).journal (removalAt (tables Z t).journal)
+  pub journal_is : length (world_of Z t).removal_journal ≡ (extents (tables Z t)).journal
+  unfolding world_of
+  journal_is = length-tabulate (extents (tables Z t)).journal (removal_at (tables Z t).journal)
 
-pub extents-same : (Z : Sizes) (t u : List ℕ) → worldOf Z t ≡ worldOf Z u → extents (tables Z t) ≡ extents (tables Z u)
-extents-same Z t u e =
+pub extents_same : (Z : Sizes) (t u : List ℕ) → world_of Z t ≡ world_of Z u → extents (tables Z t) ≡ extents (tables Z u)
+extents_same Z t u e =
     extents-is (sym (slots-is Z t) ∙ ap (λ (w : World). length w.bodies) e ∙ slots-is Z u)
     (sym (islands-is Z t) ∙ ap (λ (w : World). length w.islands) e ∙ islands-is Z u)
     (sym (tracked-is Z t) ∙ ap (λ (w : World). w.tracked) e ∙ tracked-is Z u)
-    (sym (places_is Z t) ∙ ap (λ (w : World). w.joint-places) e ∙ places_is Z u)
-    (sym (journal-is Z t) ∙ ap (λ (w : World). length w.removal-journal) e ∙ journal-is Z u)
+    (sym (places_is Z t) ∙ ap (λ (w : World). w.joint_places) e ∙ places_is Z u)
+    (sym (journal_is Z t) ∙ ap (λ (w : World). length w.removal_journal) e ∙ journal_is Z u)
 
 -- ---- rows of k words
 
@@ -171,9 +171,9 @@ module _ {A : Type 0} {n m : ℕ} {S : View} (S' : View) (R : Rules n m S) (f f'
   held-value e l h =
       let k : Held n m S e = held R e l h in
       let i = S.home e in
-      let q : get_or (list_of S i) (S.place e) 0 ≡ e = list-of R i k.home-lt e l refl in
-      let p : S.place e < length (list_of S i) = subst (λ (c : ℕ). S.place e < c) (sym (length-list R i k.home-lt)) k.place-lt in
-      subst (λ (x : ℕ). f x ≡ f' x) q (same-value f f' (list_of S i) (list_of S' i) (W i k.home-lt) (L i k.home-lt) (S.place e) p)
+      let q : get_or (list_of S i) (S.place e) 0 ≡ e = list-of R i k.home_lt e l refl in
+      let p : S.place e < length (list_of S i) = subst (λ (c : ℕ). S.place e < c) (sym (length-list R i k.home_lt)) k.place_lt in
+      subst (λ (x : ℕ). f x ≡ f' x) q (same-value f f' (list_of S i) (list_of S' i) (W i k.home_lt) (L i k.home_lt) (S.place e) p)
 
 -- ---- words, from what they mean
 
@@ -255,7 +255,7 @@ slot-words x y s a b e =
     )
 
 -- two handles
-pair-words : (x y : List ℕ) (j : ℕ) → handleAt x j ≡ handleAt y j → handleAt x (j + 2) ≡ handleAt y (j + 2)
+pair-words : (x y : List ℕ) (j : ℕ) → handle_at x j ≡ handle_at y j → handle_at x (j + 2) ≡ handle_at y (j + 2)
     → Word x y j × Word x y (j + 1) × Word x y (j + 2) × Word x y (j + 3)
 pair-words x y j a b =
     let q : j + 2 + 1 ≡ j + 3 = omega arith in (
@@ -268,17 +268,17 @@ pair-words x y j a b =
 edge-words : (x y : List ℕ) (e : ℕ) {h h' : ℕ} → h ≡ h'
     → EdgeRule h (get_or x (4 * e) 0) (get_or x (4 * e + 1) 0) (get_or x (4 * e + 2) 0) (get_or x (4 * e + 3) 0)
     → EdgeRule h' (get_or y (4 * e) 0) (get_or y (4 * e + 1) 0) (get_or y (4 * e + 2) 0) (get_or y (4 * e + 3) 0)
-    → (h ≢ nowhere → contactAt x e ≡ contactAt y e)
+    → (h ≢ nowhere → contact_at x e ≡ contact_at y e)
     → Word x y (4 * e) × Word x y (4 * e + 1) × Word x y (4 * e + 2) × Word x y (4 * e + 3)
 edge-words x y e q (inl a) (inl b) v = (
-  a.no-slot1 ∙ sym b.no-slot1,
-  a.no-generation1 ∙ sym b.no-generation1,
-  a.no-slot2 ∙ sym b.no-slot2,
-  a.no-generation2 ∙ sym b.no-generation2,
+  a.no_slot1 ∙ sym b.no_slot1,
+  a.no_generation1 ∙ sym b.no_generation1,
+  a.no_slot2 ∙ sym b.no_slot2,
+  a.no_generation2 ∙ sym b.no_generation2,
 )
-edge-words x y e q (inl a) (inr b) v = absurd (b (sym q ∙ a.not-linked))
+edge-words x y e q (inl a) (inr b) v = absurd (b (sym q ∙ a.not_linked))
 edge-words x y e q (inr a) o v =
-    let c : contactAt x e ≡ contactAt y e = v a in
+    let c : contact_at x e ≡ contact_at y e = v a in
     pair-words x y (4 * e) (ap (λ (l : ContactLink). l.body1) c) (ap (λ (l : ContactLink). l.body2) c)
 
 abbrev EightRule : List ℕ → ℕ → ℕ → ℕ → Type 0
@@ -286,22 +286,22 @@ EightRule x p h s =
     JointRule h s (get_or x (8 * p) 0) (get_or x (8 * p + 1) 0) (get_or x (8 * p + 2) 0) (get_or x (8 * p + 3) 0) (get_or x (8 * p + 4) 0) (get_or x (8 * p + 5) 0) (get_or x (8 * p + 6) 0)
     (get_or x (8 * p + 7) 0)
 
-joint-words : (x y : List ℕ) (p : ℕ) {h h' s s' : ℕ} → h ≡ h' → EightRule x p h s → EightRule y p h' s' → (h ≢ nowhere → jointAt x p ≡ jointAt y p) → Eight (Word x y) (8 * p)
+joint-words : (x y : List ℕ) (p : ℕ) {h h' s s' : ℕ} → h ≡ h' → EightRule x p h s → EightRule y p h' s' → (h ≢ nowhere → joint_at x p ≡ joint_at y p) → Eight (Word x y) (8 * p)
 joint-words x y p q (inl a) (inl b) v =
     record {
       at0 = a.no_kind ∙ sym b.no_kind;
-      at1 = a.no-a ∙ sym b.no-a;
-      at2 = a.no-b ∙ sym b.no-b;
-      at3 = a.no-c ∙ sym b.no-c;
-      at4 = a.no-slot1 ∙ sym b.no-slot1;
-      at5 = a.no-generation1 ∙ sym b.no-generation1;
-      at6 = a.no-slot2 ∙ sym b.no-slot2;
-      at7 = a.no-generation2 ∙ sym b.no-generation2;
+      at1 = a.no_a ∙ sym b.no_a;
+      at2 = a.no_b ∙ sym b.no_b;
+      at3 = a.no_c ∙ sym b.no_c;
+      at4 = a.no_slot1 ∙ sym b.no_slot1;
+      at5 = a.no_generation1 ∙ sym b.no_generation1;
+      at6 = a.no_slot2 ∙ sym b.no_slot2;
+      at7 = a.no_generation2 ∙ sym b.no_generation2;
     }
-joint-words x y p q (inl a) (inr b) v = absurd (b.linked (sym q ∙ a.not-linked))
-joint-words x y p q (inr a) (inl b) v = absurd (a.linked (q ∙ b.not-linked))
+joint-words x y p q (inl a) (inr b) v = absurd (b.linked (sym q ∙ a.not_linked))
+joint-words x y p q (inr a) (inl b) v = absurd (a.linked (q ∙ b.not_linked))
 joint-words x y p q (inr a) (inr b) v =
-    let c : jointAt x p ≡ jointAt y p = v a.linked in
+    let c : joint_at x p ≡ joint_at y p = v a.linked in
     let k = key-words _ _ _ _ _ _ _ _ a.key b.key (ap (λ (l : JointLink). l.key) c) in
     let e5 : 8 * p + 4 + 1 ≡ 8 * p + 5 = omega arith in
     let e7 : 8 * p + 6 + 1 ≡ 8 * p + 7 = omega arith in
@@ -316,11 +316,11 @@ joint-words x y p q (inr a) (inr b) v =
       at7 = subst (Word x y) e7 (ap (λ (l : JointLink). l.body2.generation) c);
     }
 
-fit_word : (x y : List ℕ) (i : ℕ) {h h' : ℕ} → h ≡ h' → ScanRule h (get_or x i 0) → ScanRule h' (get_or y i 0) → (h ≢ nowhere → observedAt x i ≡ observedAt y i) → Word x y i
-fit_word x y i q (inl a) (inl b) v = a.no-fit ∙ sym b.no-fit
+fit_word : (x y : List ℕ) (i : ℕ) {h h' : ℕ} → h ≡ h' → ScanRule h (get_or x i 0) → ScanRule h' (get_or y i 0) → (h ≢ nowhere → observed_at x i ≡ observed_at y i) → Word x y i
+fit_word x y i q (inl a) (inl b) v = a.no_fit ∙ sym b.no_fit
 fit_word x y i q (inl a) (inr b) v = absurd (b.listed (sym q ∙ a.not_listed))
 fit_word x y i q (inr a) (inl b) v = absurd (a.listed (q ∙ b.not_listed))
-fit_word x y i q (inr a) (inr b) v = flag_word _ _ a.fit-flag b.fit-flag (ap (λ (o : Observed). o.eligible) (v a.listed))
+fit_word x y i q (inr a) (inr b) v = flag_word _ _ a.fit_flag b.fit_flag (ap (λ (o : Observed). o.eligible) (v a.listed))
 
 record HeadWords (x y : List ℕ) : Type 0 where
   slots : Word x y 0
@@ -350,10 +350,10 @@ head-words x y lx ly h =
 
 module _ (Z : Sizes) (X : Extents) (T U : Tables) (G : Good Z X T) (H : Good Z X U) (K : Sized Z T) (J : Sized Z U) (E : decode Z X T ≡ decode Z X U) (F : SameBehind Z X T U) where
   body : (s : ℕ) → s < X.slots → body_at T.slots s ≡ body_at U.slots s
-  body = tabulate-at X.slots (body_at T.slots) (body_at U.slots) noBody (ap (λ (w : World). w.bodies) E)
+  body = tabulate-at X.slots (body_at T.slots) (body_at U.slots) absent_body (ap (λ (w : World). w.bodies) E)
 
-  isle : (i : ℕ) → i < X.islands → islandIn Z T i ≡ islandIn Z U i
-  isle = tabulate-at X.islands (islandIn Z T) (islandIn Z U) noIsland (ap (λ (w : World). w.islands) E)
+  isle : (i : ℕ) → i < X.islands → island_in Z T i ≡ island_in Z U i
+  isle = tabulate-at X.islands (island_in Z T) (island_in Z U) absent_island (ap (λ (w : World). w.islands) E)
 
   same-slots : T.slots ≡ U.slots
   same-slots =
@@ -363,112 +363,112 @@ module _ (Z : Sizes) (X : Extents) (T U : Tables) (G : Good Z X T) (H : Good Z X
 
   same_rows : T.rows ≡ U.rows
   same_rows =
-      rows_same T.rows U.rows (3 * X.islands) (K.rows-length ∙ sym J.rows-length)
+      rows_same T.rows U.rows (3 * X.islands) (K.rows_length ∙ sym J.rows_length)
       (rows3 (λ j. get_or T.rows j 0 ≡ get_or U.rows j 0) X.islands
       (λ i il. (
-        ap (λ (a : Island). a.constraint-remove-count) (isle i il),
-        ap (λ (a : Island). a.split-denied-until) (isle i il),
+        ap (λ (a : Island). a.constraint_remove_count) (isle i il),
+        ap (λ (a : Island). a.split_denied_until) (isle i il),
         flag_word _ _ (asleep (G.island i il)) (asleep (H.island i il)) (ap (λ (a : Island). a.sleeping) (isle i il)),
       )))
       F.rows
 
   same-members : T.members ≡ U.members
   same-members =
-      same-chain T.members U.members Z.slots X.slots X.islands G.members-wf H.members-wf (λ i il. ap (λ (a : Island). a.bodies) (isle i il))
-      (K.members-length ∙ sym J.members-length)
+      same-chain T.members U.members Z.slots X.slots X.islands G.members_wf H.members_wf (λ i il. ap (λ (a : Island). a.bodies) (isle i il))
+      (K.members_length ∙ sym J.members_length)
       F.members
 
   same-freed : T.freed ≡ U.freed
   same-freed =
-      same-stack T.freed U.freed Z.islands X.islands G.freed-wf H.freed-wf (ap (λ (w : World). w.free-islands) E) (K.freed-length ∙ sym J.freed-length) F.freed
+      same-stack T.freed U.freed Z.islands X.islands G.freed_wf H.freed_wf (ap (λ (w : World). w.free_islands) E) (K.freed_length ∙ sym J.freed_length) F.freed
 
   same-spare : T.spare ≡ U.spare
   same-spare =
-      same-stack T.spare U.spare Z.joints X.joints G.spare-wf H.spare-wf (ap (λ (w : World). w.free-places) E) (K.spare-length ∙ sym J.spare-length) F.spare
+      same-stack T.spare U.spare Z.joints X.joints G.spare_wf H.spare_wf (ap (λ (w : World). w.free_places) E) (K.spare_length ∙ sym J.spare_length) F.spare
 
   same-journal : T.journal ≡ U.journal
   same-journal =
-      rows_same T.journal U.journal (4 * X.journal) (K.journal-length ∙ sym J.journal-length)
+      rows_same T.journal U.journal (4 * X.journal) (K.journal_length ∙ sym J.journal_length)
       (rows4 (λ j. get_or T.journal j 0 ≡ get_or U.journal j 0) X.journal
       (λ s sl.
-      let e : removalAt T.journal s ≡ removalAt U.journal s =
-      tabulate-at X.journal (removalAt T.journal) (removalAt U.journal) (removalAt [] 0) (ap (λ (w : World). w.removal-journal) E) s sl in
+      let e : removal_at T.journal s ≡ removal_at U.journal s =
+      tabulate-at X.journal (removal_at T.journal) (removal_at U.journal) (removal_at [] 0) (ap (λ (w : World). w.removal_journal) E) s sl in
       pair-words T.journal U.journal (4 * s) (ap (λ (r : Removal). r.body1) e) (ap (λ (r : Removal). r.body2) e)))
       F.journal
 
   -- contact links
-  touching : (i : ℕ) → i < X.islands → map (contactAt T.touches) (list_of (contacts-in Z T) i) ≡ map (contactAt U.touches) (list_of (contacts-in Z U) i)
-  touching i il = ap (λ (a : Island). a.contact-links) (isle i il)
+  touching : (i : ℕ) → i < X.islands → map (contact_at T.touches) (list_of (contacts_in Z T) i) ≡ map (contact_at U.touches) (list_of (contacts_in Z U) i)
+  touching i il = ap (λ (a : Island). a.contact_links) (isle i il)
 
-  edges-in : (i : ℕ) → i < X.islands → list_of (contacts-in Z T) i ≡ list_of (contacts-in Z U) i
+  edges-in : (i : ℕ) → i < X.islands → list_of (contacts_in Z T) i ≡ list_of (contacts_in Z U) i
   edges-in i il =
-      same_numbers (contactAt T.touches) (contactAt U.touches) (λ (l : ContactLink). l.edge_id) (λ e. refl) (λ e. refl) (list_of (contacts-in Z T) i) (list_of (contacts-in Z U) i) (touching i il)
+      same_numbers (contact_at T.touches) (contact_at U.touches) (λ (l : ContactLink). l.edge_id) (λ e. refl) (λ e. refl) (list_of (contacts_in Z T) i) (list_of (contacts_in Z U) i) (touching i il)
 
   same-contacts : T.contacts ≡ U.contacts
   same-contacts =
-      same-chain T.contacts U.contacts Z.edges X.edges X.islands G.contacts-wf H.contacts-wf edges-in (K.contacts-length ∙ sym J.contacts-length) F.contacts
+      same-chain T.contacts U.contacts Z.edges X.edges X.islands G.contacts_wf H.contacts_wf edges-in (K.contacts_length ∙ sym J.contacts_length) F.contacts
 
   same-touches : T.touches ≡ U.touches
   same-touches =
-      rows_same T.touches U.touches (4 * X.edges) (K.touches-length ∙ sym J.touches-length)
+      rows_same T.touches U.touches (4 * X.edges) (K.touches_length ∙ sym J.touches_length)
       (rows4 (λ j. get_or T.touches j 0 ≡ get_or U.touches j 0) X.edges
       (λ e el.
-      edge-words T.touches U.touches e (same-elem G.contacts-wf.rules H.contacts-wf.rules edges-in e el).home (G.edge e el) (H.edge e el)
-      (held-value (contacts-in Z U) G.contacts-wf.rules (contactAt T.touches) (contactAt U.touches) touching edges-in e el)))
+      edge-words T.touches U.touches e (same-elem G.contacts_wf.rules H.contacts_wf.rules edges-in e el).home (G.edge e el) (H.edge e el)
+      (held-value (contacts_in Z U) G.contacts_wf.rules (contact_at T.touches) (contact_at U.touches) touching edges-in e el)))
       F.touches
 
   -- joint links
-  jointed : (i : ℕ) → i < X.islands → map (jointAt T.keys) (list_of (joints-in Z T) i) ≡ map (jointAt U.keys) (list_of (joints-in Z U) i)
-  jointed i il = ap (λ (a : Island). a.joint-links) (isle i il)
+  jointed : (i : ℕ) → i < X.islands → map (joint_at T.keys) (list_of (joints_in Z T) i) ≡ map (joint_at U.keys) (list_of (joints_in Z U) i)
+  jointed i il = ap (λ (a : Island). a.joint_links) (isle i il)
 
-  places-in : (i : ℕ) → i < X.islands → list_of (joints-in Z T) i ≡ list_of (joints-in Z U) i
+  places-in : (i : ℕ) → i < X.islands → list_of (joints_in Z T) i ≡ list_of (joints_in Z U) i
   places-in i il =
-      same_numbers (jointAt T.keys) (jointAt U.keys) (λ (l : JointLink). l.place) (λ e. refl) (λ e. refl) (list_of (joints-in Z T) i) (list_of (joints-in Z U) i) (jointed i il)
+      same_numbers (joint_at T.keys) (joint_at U.keys) (λ (l : JointLink). l.place) (λ e. refl) (λ e. refl) (list_of (joints_in Z T) i) (list_of (joints_in Z U) i) (jointed i il)
 
   same-joints : T.joints ≡ U.joints
   same-joints =
-      same-chain T.joints U.joints Z.joints X.joints X.islands G.joints-wf H.joints-wf places-in (K.joints-length ∙ sym J.joints-length) F.joints
+      same-chain T.joints U.joints Z.joints X.joints X.islands G.joints_wf H.joints_wf places-in (K.joints_length ∙ sym J.joints_length) F.joints
 
   same_keys : T.keys ≡ U.keys
   same_keys =
       rows_same T.keys U.keys (8 * X.joints) (K.keys_length ∙ sym J.keys_length)
       (rows8 (λ j. get_or T.keys j 0 ≡ get_or U.keys j 0) X.joints
       (λ p pl.
-      joint-words T.keys U.keys p (same-elem G.joints-wf.rules H.joints-wf.rules places-in p pl).home (G.joint p pl) (H.joint p pl)
-      (held-value (joints-in Z U) G.joints-wf.rules (jointAt T.keys) (jointAt U.keys) jointed places-in p pl)))
+      joint-words T.keys U.keys p (same-elem G.joints_wf.rules H.joints_wf.rules places-in p pl).home (G.joint p pl) (H.joint p pl)
+      (held-value (joints_in Z U) G.joints_wf.rules (joint_at T.keys) (joint_at U.keys) jointed places-in p pl)))
       F.keys
 
   -- the scan
-  observed : map (observedAt T.fit) (list_of (scan-in Z T) 0) ≡ map (observedAt U.fit) (list_of (scan-in Z U) 0)
-  observed = ap (λ (w : World). w.sleep-scan-touched) E
+  observed : map (observed_at T.fit) (list_of (scan_in Z T) 0) ≡ map (observed_at U.fit) (list_of (scan_in Z U) 0)
+  observed = ap (λ (w : World). w.sleep_scan_touched) E
 
-  seen-in : list_of (scan-in Z T) 0 ≡ list_of (scan-in Z U) 0
+  seen-in : list_of (scan_in Z T) 0 ≡ list_of (scan_in Z U) 0
   seen-in =
-      same_numbers (observedAt T.fit) (observedAt U.fit) (λ (o : Observed). o.island) (λ e. refl) (λ e. refl) (list_of (scan-in Z T) 0) (list_of (scan-in Z U) 0) observed
+      same_numbers (observed_at T.fit) (observed_at U.fit) (λ (o : Observed). o.island) (λ e. refl) (λ e. refl) (list_of (scan_in Z T) 0) (list_of (scan_in Z U) 0) observed
 
   same-scan : T.scan ≡ U.scan
-  same-scan = same-stack T.scan U.scan Z.islands X.islands G.scan-wf H.scan-wf seen-in (K.scan-length ∙ sym J.scan-length) F.scan
+  same-scan = same-stack T.scan U.scan Z.islands X.islands G.scan_wf H.scan_wf seen-in (K.scan_length ∙ sym J.scan_length) F.scan
 
-  seen-lists : (i : ℕ) → i < 1 → list_of (scan-in Z T) i ≡ list_of (scan-in Z U) i
-  seen-lists = only T.scan U.scan Z.islands X.islands G.scan-wf H.scan-wf seen-in
+  seen-lists : (i : ℕ) → i < 1 → list_of (scan_in Z T) i ≡ list_of (scan_in Z U) i
+  seen-lists = only T.scan U.scan Z.islands X.islands G.scan_wf H.scan_wf seen-in
 
-  observed-lists : (i : ℕ) → i < 1 → map (observedAt T.fit) (list_of (scan-in Z T) i) ≡ map (observedAt U.fit) (list_of (scan-in Z U) i)
+  observed-lists : (i : ℕ) → i < 1 → map (observed_at T.fit) (list_of (scan_in Z T) i) ≡ map (observed_at U.fit) (list_of (scan_in Z U) i)
   observed-lists i il =
-      subst (λ (k : ℕ). map (observedAt T.fit) (list_of (scan-in Z T) k) ≡ map (observedAt U.fit) (list_of (scan-in Z U) k)) (sym (zero-only i il)) observed
+      subst (λ (k : ℕ). map (observed_at T.fit) (list_of (scan_in Z T) k) ≡ map (observed_at U.fit) (list_of (scan_in Z U) k)) (sym (zero-only i il)) observed
 
   same-fit : T.fit ≡ U.fit
   same-fit =
       rows_same T.fit U.fit X.islands (K.Fit-length ∙ sym J.Fit-length)
       (λ i il.
-      fit_word T.fit U.fit i (same-elem G.scan-wf.rules H.scan-wf.rules seen-lists i il).home (G.seen i il) (H.seen i il)
-      (held-value (scan-in Z U) G.scan-wf.rules (observedAt T.fit) (observedAt U.fit) observed-lists seen-lists i il))
+      fit_word T.fit U.fit i (same-elem G.scan_wf.rules H.scan_wf.rules seen-lists i il).home (G.seen i il) (H.seen i il)
+      (held-value (scan_in Z U) G.scan_wf.rules (observed_at T.fit) (observed_at U.fit) observed-lists seen-lists i il))
       F.fit
 
   -- the head
   same_head : extents T ≡ extents U → T.head ≡ U.head
   same_head e =
-      let p = pending-word _ _ _ _ G.head.split H.head.split (ap (λ (w : World). w.split-island) E) in
-      head-words T.head U.head K.head-length J.head-length
+      let p = pending-word _ _ _ _ G.head.split H.head.split (ap (λ (w : World). w.split_island) E) in
+      head-words T.head U.head K.head_length J.head_length
       (record {
         slots = ap (λ (x : Extents). x.slots) e;
         islands = ap (λ (x : Extents). x.islands) e;
@@ -477,7 +477,7 @@ module _ (Z : Sizes) (X : Extents) (T U : Tables) (G : Good Z X T) (H : Good Z X
         journal = ap (λ (x : Extents). x.journal) e;
         pends = p.0;
         number = p.1;
-        stamp = ap (λ (w : World). w.sleep-scan-stamp) E;
+        stamp = ap (λ (w : World). w.sleep_scan_stamp) E;
         scans = flag_word _ _ (scan-flag G.head) (scan-flag H.head) (ap (λ (w : World). w.scanning) E);
       })
 
@@ -497,26 +497,26 @@ pub buffer-same : (Z : Sizes) (t u : List ℕ) → length t ≡ total Z → leng
 buffer-same Z t u lt lu e =
     ext_get_or 0 t u (lt ∙ sym lu)
     (λ j l.
-    below j (slotsAt Z) (λ h. word t u (headAt Z) (headLong Z) j (ap (λ (T : Tables). T.head) e) (omega arith) (omega arith))
-    (λ h0. below j (membersAt Z) (λ h. word t u (slotsAt Z) (slotsLong Z) j (ap (λ (T : Tables). T.slots) e) (omega arith) (omega arith))
-    (λ h1. below j (rows_at Z) (λ h. word t u (membersAt Z) (membersLong Z) j (ap (λ (T : Tables). T.members) e) (omega arith) (omega arith))
-    (λ h2. below j (freedAt Z) (λ h. word t u (rows_at Z) (rowsLong Z) j (ap (λ (T : Tables). T.rows) e) (omega arith) (omega arith))
-    (λ h3. below j (contactsAt Z) (λ h. word t u (freedAt Z) (freedLong Z) j (ap (λ (T : Tables). T.freed) e) (omega arith) (omega arith))
-    (λ h4. below j (touchesAt Z) (λ h. word t u (contactsAt Z) (contactsLong Z) j (ap (λ (T : Tables). T.contacts) e) (omega arith) (omega arith))
-    (λ h5. below j (jointsAt Z) (λ h. word t u (touchesAt Z) (touchesLong Z) j (ap (λ (T : Tables). T.touches) e) (omega arith) (omega arith))
-    (λ h6. below j (keysAt Z) (λ h. word t u (jointsAt Z) (jointsLong Z) j (ap (λ (T : Tables). T.joints) e) (omega arith) (omega arith))
-    (λ h7. below j (spareAt Z) (λ h. word t u (keysAt Z) (keysLong Z) j (ap (λ (T : Tables). T.keys) e) (omega arith) (omega arith))
-    (λ h8. below j (journalAt Z) (λ h. word t u (spareAt Z) (spareLong Z) j (ap (λ (T : Tables). T.spare) e) (omega arith) (omega arith))
-    (λ h9. below j (scanAt Z) (λ h. word t u (journalAt Z) (journalLong Z) j (ap (λ (T : Tables). T.journal) e) (omega arith) (omega arith))
-    (λ h10. below j (fitAt Z) (λ h. word t u (scanAt Z) (scanLong Z) j (ap (λ (T : Tables). T.scan) e) (omega arith) (omega arith))
-    (λ h11. word t u (fitAt Z) (fitLong Z) j (ap (λ (T : Tables). T.fit) e) (omega arith) (omega arith))))))))))))))
+    below j (slots_at Z) (λ h. word t u (head_at Z) (head_span Z) j (ap (λ (T : Tables). T.head) e) (omega arith) (omega arith))
+    (λ h0. below j (members_at Z) (λ h. word t u (slots_at Z) (slots_span Z) j (ap (λ (T : Tables). T.slots) e) (omega arith) (omega arith))
+    (λ h1. below j (rows_at Z) (λ h. word t u (members_at Z) (members_span Z) j (ap (λ (T : Tables). T.members) e) (omega arith) (omega arith))
+    (λ h2. below j (freed_at Z) (λ h. word t u (rows_at Z) (rows_span Z) j (ap (λ (T : Tables). T.rows) e) (omega arith) (omega arith))
+    (λ h3. below j (contacts_at Z) (λ h. word t u (freed_at Z) (freed_span Z) j (ap (λ (T : Tables). T.freed) e) (omega arith) (omega arith))
+    (λ h4. below j (touches_at Z) (λ h. word t u (contacts_at Z) (contacts_span Z) j (ap (λ (T : Tables). T.contacts) e) (omega arith) (omega arith))
+    (λ h5. below j (joints_at Z) (λ h. word t u (touches_at Z) (touches_span Z) j (ap (λ (T : Tables). T.touches) e) (omega arith) (omega arith))
+    (λ h6. below j (keys_at Z) (λ h. word t u (joints_at Z) (joints_span Z) j (ap (λ (T : Tables). T.joints) e) (omega arith) (omega arith))
+    (λ h7. below j (spare_at Z) (λ h. word t u (keys_at Z) (keys_span Z) j (ap (λ (T : Tables). T.keys) e) (omega arith) (omega arith))
+    (λ h8. below j (journal_at Z) (λ h. word t u (spare_at Z) (spare_span Z) j (ap (λ (T : Tables). T.spare) e) (omega arith) (omega arith))
+    (λ h9. below j (scan_at Z) (λ h. word t u (journal_at Z) (journal_span Z) j (ap (λ (T : Tables). T.journal) e) (omega arith) (omega arith))
+    (λ h10. below j (fit_at Z) (λ h. word t u (scan_at Z) (scan_span Z) j (ap (λ (T : Tables). T.scan) e) (omega arith) (omega arith))
+    (λ h11. word t u (fit_at Z) (fit_span Z) j (ap (λ (T : Tables). T.fit) e) (omega arith) (omega arith))))))))))))))
 
-pub unique : (Z : Sizes) (t u : List ℕ) → Sound Z t → Sound Z u → worldOf Z t ≡ worldOf Z u → SameBehind Z (extents (tables Z t)) (tables Z t) (tables Z u) → t ≡ u
-unfolding worldOf
+pub unique : (Z : Sizes) (t u : List ℕ) → Sound Z t → Sound Z u → world_of Z t ≡ world_of Z u → SameBehind Z (extents (tables Z t)) (tables Z t) (tables Z u) → t ≡ u
+unfolding world_of
 unique Z t u S R E F =
     let T = tables Z t in
     let U = tables Z u in
-    let e : extents T ≡ extents U = extents-same Z t u E in
+    let e : extents T ≡ extents U = extents_same Z t u E in
     buffer-same Z t u S.long R.long
     (same_tables Z (extents T) T U S.good (subst (λ (X : Extents). Good Z X U) (sym e) R.good) (sized Z t S.long) (sized Z u R.long)
     (E ∙ ap (λ (X : Extents). decode Z X U) (sym e))
@@ -524,9 +524,9 @@ unique Z t u S R E F =
     e)
 
 -- both keep what lies behind the extents of one and the same buffer
-pub unique-from : (Z : Sizes) (T : Tables) (u v : List ℕ) → Sound Z u → Sound Z v → worldOf Z u ≡ worldOf Z v → SameBehind Z (extents (tables Z u)) T (tables Z u) → SameBehind Z (extents (tables Z v)) T (tables Z v) → u ≡ v
+pub unique-from : (Z : Sizes) (T : Tables) (u v : List ℕ) → Sound Z u → Sound Z v → world_of Z u ≡ world_of Z v → SameBehind Z (extents (tables Z u)) T (tables Z u) → SameBehind Z (extents (tables Z v)) T (tables Z v) → u ≡ v
 unique-from Z T u v S R E A B =
-    unique Z u v S R E (kept-both A (subst (λ (X : Extents). SameBehind Z X T (tables Z v)) (sym (extents-same Z u v E)) B))
+    unique Z u v S R E (kept-both A (subst (λ (X : Extents). SameBehind Z X T (tables Z v)) (sym (extents_same Z u v E)) B))
 
 -- ---- two programs that do the same step agree on the answer and on every word
 
@@ -556,7 +556,7 @@ asks-agree Z f n t r r' (inr x) (inr y) = x.1 ∙ sym y.1
 
 -- ---- a step that leaves the state leaves the words
 
-pub kept-words : (Z : Sizes) (f : World → Step) (t : List ℕ) (r : Answer) (u : List ℕ) → Sound Z t → Does Z f t r u → (f (worldOf Z t)).after ≡ worldOf Z t → u ≡ t
+pub kept-words : (Z : Sizes) (f : World → Step) (t : List ℕ) (r : Answer) (u : List ℕ) → Sound Z t → Does Z f t r u → (f (world_of Z t)).after ≡ world_of Z t → u ≡ t
 kept-words Z f t r u S d e =
-    let E : worldOf Z t ≡ worldOf Z u = sym (d.after ∙ e) in
-    sym (unique Z t u S d.sound E (subst (λ (X : Extents). SameBehind Z X (tables Z t) (tables Z u)) (sym (extents-same Z t u E)) d.frame))
+    let E : world_of Z t ≡ world_of Z u = sym (d.after ∙ e) in
+    sym (unique Z t u S d.sound E (subst (λ (X : Extents). SameBehind Z X (tables Z t) (tables Z u)) (sym (extents_same Z t u E)) d.frame))

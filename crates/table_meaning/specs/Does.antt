@@ -3,9 +3,9 @@ use Rattle.std.specs.Prelude.{◌≡◌, ◌⊎◌, ◌≢◌, List, ℕ, ◌+�
 use Rattle.def_kinds.specs.declared.Sizes.{Sizes}
 use Rattle.def_kinds.specs.declared.Answer.{Answer}
 use Rattle.def_kinds.specs.declared.Answer.TheVariants.{Done, BadTables}
-use Rattle.def_state.specs.World.{World, emptyWorld, Step}
+use Rattle.def_state.specs.World.{World, empty_world, Step}
 use Rattle.table_meaning.specs.Layout.{Tables, tables, total, Extents, extents}
-use Rattle.table_meaning.specs.Decode.{worldOf}
+use Rattle.table_meaning.specs.Decode.{world_of}
 use Rattle.table_meaning.specs.Sound.{Sound}
 
 -- y is x from the word k on
@@ -35,8 +35,8 @@ pub record SameBehind (Z : Sizes) (X : Extents) (T U : Tables) : Type 0 where
 -- the answer r and the words t' are those of the step f on the state that t holds; behind the extents after it t' is t
 pub record Does (Z : Sizes) (f : World → Step) (t : List ℕ) (r : Answer) (t' : List ℕ) : Type 0 where
   pub sound : Sound Z t'
-  pub answer : r ≡ (f (worldOf Z t)).answer
-  pub after : worldOf Z t' ≡ (f (worldOf Z t)).after
+  pub answer : r ≡ (f (world_of Z t)).answer
+  pub after : world_of Z t' ≡ (f (world_of Z t)).after
   pub frame : SameBehind Z (extents (tables Z t')) (tables Z t) (tables Z t')
 
 pub record Refuses (Z : Sizes) (t : List ℕ) (r : Answer) (t' : List ℕ) : Type 0 where
@@ -50,14 +50,14 @@ Called Z f t r t' = (Sound Z t × Does Z f t r t') ⊎ Refuses Z t r t'
 
 -- a question to the tables, which changes nothing: f of the state, or the refusal n
 abbrev pub Asks : {A : Type 0} (Z : Sizes) (f : World → A) (n : A) (t : List ℕ) (r : A) → Type 0
-Asks Z f n t r = (Sound Z t × (r ≡ f (worldOf Z t))) ⊎ ((Sound Z t → ⊥) × (r ≡ n))
+Asks Z f n t r = (Sound Z t × (r ≡ f (world_of Z t))) ⊎ ((Sound Z t → ⊥) × (r ≡ n))
 
 -- reset: 9 for a wrong length only, and else the empty state, whatever the words were
 pub record Emptied (Z : Sizes) (t : List ℕ) (r : Answer) (t' : List ℕ) : Type 0 where
   pub right : length t ≡ total Z
   pub zero : r ≡ Done
   pub sound : Sound Z t'
-  pub after : worldOf Z t' ≡ emptyWorld
+  pub after : world_of Z t' ≡ empty_world
   pub frame : SameBehind Z (extents (tables Z t')) (tables Z t) (tables Z t')
 
 pub record Wrong (Z : Sizes) (t : List ℕ) (r : Answer) (t' : List ℕ) : Type 0 where

@@ -15,95 +15,95 @@ use Rattle.table_meaning.specs.declared.Table.TheVariants.{Head, Slots, Members,
 
 module _ (Z : Sizes) where
   -- head: nine words: slots in use, islands in use (the next never used number), the tracked length, joint places in use, the journal's length; is a split pending (0 or 1), and of which island (0 where none is); the scan's stamp, and whether it is open (0 or 1)
-  abbrev pub headAt : ℕ
-  headAt = 0
+  abbrev pub head_at : ℕ
+  head_at = 0
 
-  abbrev pub headLong : ℕ
-  headLong = 9
+  abbrev pub head_span : ℕ
+  head_span = 9
 
   -- slots: five words a slot: generation (4294967295: no live body), lowest allowed generation, fixed, enabled, sleeping (0 or 1)
-  abbrev pub slotsAt : ℕ
-  slotsAt = 9
+  abbrev pub slots_at : ℕ
+  slots_at = 9
 
-  abbrev pub slotsLong : ℕ
-  slotsLong = 5 * Z.slots
+  abbrev pub slots_span : ℕ
+  slots_span = 5 * Z.slots
 
   -- members: the islands' lists of bodies: a chain table, slots in islands
-  abbrev pub membersAt : ℕ
-  membersAt = 9 + 5 * Z.slots
+  abbrev pub members_at : ℕ
+  members_at = 9 + 5 * Z.slots
 
-  abbrev pub membersLong : ℕ
-  membersLong = 4 * Z.slots + 2 * Z.islands
+  abbrev pub members_span : ℕ
+  members_span = 4 * Z.slots + 2 * Z.islands
 
   -- rows: three words an island: constraint_remove_count, split_denied_until, sleeping
   abbrev pub rows_at : ℕ
   rows_at = 9 + 9 * Z.slots + 2 * Z.islands
 
-  abbrev pub rowsLong : ℕ
-  rowsLong = 3 * Z.islands
+  abbrev pub rows_span : ℕ
+  rows_span = 3 * Z.islands
 
   -- freed: the free stack: a chain table, island numbers in one list
-  abbrev pub freedAt : ℕ
-  freedAt = 9 + 9 * Z.slots + 5 * Z.islands
+  abbrev pub freed_at : ℕ
+  freed_at = 9 + 9 * Z.slots + 5 * Z.islands
 
-  abbrev pub freedLong : ℕ
-  freedLong = 4 * Z.islands + 2
+  abbrev pub freed_span : ℕ
+  freed_span = 4 * Z.islands + 2
 
   -- contacts: the islands' lists of contact links: a chain table, edge numbers in islands
-  abbrev pub contactsAt : ℕ
-  contactsAt = 11 + 9 * Z.slots + 9 * Z.islands
+  abbrev pub contacts_at : ℕ
+  contacts_at = 11 + 9 * Z.slots + 9 * Z.islands
 
-  abbrev pub contactsLong : ℕ
-  contactsLong = 4 * Z.edges + 2 * Z.islands
+  abbrev pub contacts_span : ℕ
+  contacts_span = 4 * Z.edges + 2 * Z.islands
 
   -- touches: four words an edge: slot and generation of the link's first body, of its second. All 4294967295 where the edge is not linked
-  abbrev pub touchesAt : ℕ
-  touchesAt = 11 + 9 * Z.slots + 11 * Z.islands + 4 * Z.edges
+  abbrev pub touches_at : ℕ
+  touches_at = 11 + 9 * Z.slots + 11 * Z.islands + 4 * Z.edges
 
-  abbrev pub touchesLong : ℕ
-  touchesLong = 4 * Z.edges
+  abbrev pub touches_span : ℕ
+  touches_span = 4 * Z.edges
 
   -- joints: the islands' lists of joint links: a chain table, joint places in islands
-  abbrev pub jointsAt : ℕ
-  jointsAt = 11 + 9 * Z.slots + 11 * Z.islands + 8 * Z.edges
+  abbrev pub joints_at : ℕ
+  joints_at = 11 + 9 * Z.slots + 11 * Z.islands + 8 * Z.edges
 
-  abbrev pub jointsLong : ℕ
-  jointsLong = 4 * Z.joints + 2 * Z.islands
+  abbrev pub joints_span : ℕ
+  joints_span = 4 * Z.joints + 2 * Z.islands
 
   -- keys: eight words a joint place: the key's kind (0 impulse, 1 chain), then index, generation and 0, or the multibody's high and low 32 bits and the ordinal; then two handles as in touches. All 4294967295 where the place is free
-  abbrev pub keysAt : ℕ
-  keysAt = 11 + 9 * Z.slots + 13 * Z.islands + 8 * Z.edges + 4 * Z.joints
+  abbrev pub keys_at : ℕ
+  keys_at = 11 + 9 * Z.slots + 13 * Z.islands + 8 * Z.edges + 4 * Z.joints
 
-  abbrev pub keysLong : ℕ
-  keysLong = 8 * Z.joints
+  abbrev pub keys_span : ℕ
+  keys_span = 8 * Z.joints
 
   -- spare: the free joint places: a chain table, joint places in one list
-  abbrev pub spareAt : ℕ
-  spareAt = 11 + 9 * Z.slots + 13 * Z.islands + 8 * Z.edges + 12 * Z.joints
+  abbrev pub spare_at : ℕ
+  spare_at = 11 + 9 * Z.slots + 13 * Z.islands + 8 * Z.edges + 12 * Z.joints
 
-  abbrev pub spareLong : ℕ
-  spareLong = 4 * Z.joints + 2
+  abbrev pub spare_span : ℕ
+  spare_span = 4 * Z.joints + 2
 
   -- journal: four words an entry: two handles
-  abbrev pub journalAt : ℕ
-  journalAt = 13 + 9 * Z.slots + 13 * Z.islands + 8 * Z.edges + 16 * Z.joints
+  abbrev pub journal_at : ℕ
+  journal_at = 13 + 9 * Z.slots + 13 * Z.islands + 8 * Z.edges + 16 * Z.joints
 
-  abbrev pub journalLong : ℕ
-  journalLong = 4 * Z.journal
+  abbrev pub journal_span : ℕ
+  journal_span = 4 * Z.journal
 
   -- scan: the islands observed in the open scan, in order: a chain table, island numbers in one list
-  abbrev pub scanAt : ℕ
-  scanAt = 13 + 9 * Z.slots + 13 * Z.islands + 8 * Z.edges + 16 * Z.joints + 4 * Z.journal
+  abbrev pub scan_at : ℕ
+  scan_at = 13 + 9 * Z.slots + 13 * Z.islands + 8 * Z.edges + 16 * Z.joints + 4 * Z.journal
 
-  abbrev pub scanLong : ℕ
-  scanLong = 4 * Z.islands + 2
+  abbrev pub scan_span : ℕ
+  scan_span = 4 * Z.islands + 2
 
   -- fit: one word an island: 1 while it is in the scan's list and all observations of it were eligible, else 0
-  abbrev pub fitAt : ℕ
-  fitAt = 15 + 9 * Z.slots + 17 * Z.islands + 8 * Z.edges + 16 * Z.joints + 4 * Z.journal
+  abbrev pub fit_at : ℕ
+  fit_at = 15 + 9 * Z.slots + 17 * Z.islands + 8 * Z.edges + 16 * Z.joints + 4 * Z.journal
 
-  abbrev pub fitLong : ℕ
-  fitLong = Z.islands
+  abbrev pub fit_span : ℕ
+  fit_span = Z.islands
 
   abbrev pub total : ℕ
   total = 15 + 9 * Z.slots + 18 * Z.islands + 8 * Z.edges + 16 * Z.joints + 4 * Z.journal
@@ -127,25 +127,25 @@ pub record Tables : Type 0 where
 abbrev pub tables : Sizes → List ℕ → Tables
 tables Z t =
     record {
-      head = part t (headAt Z) (headLong Z);
-      slots = part t (slotsAt Z) (slotsLong Z);
-      members = part t (membersAt Z) (membersLong Z);
-      rows = part t (rows_at Z) (rowsLong Z);
-      freed = part t (freedAt Z) (freedLong Z);
-      contacts = part t (contactsAt Z) (contactsLong Z);
-      touches = part t (touchesAt Z) (touchesLong Z);
-      joints = part t (jointsAt Z) (jointsLong Z);
-      keys = part t (keysAt Z) (keysLong Z);
-      spare = part t (spareAt Z) (spareLong Z);
-      journal = part t (journalAt Z) (journalLong Z);
-      scan = part t (scanAt Z) (scanLong Z);
-      fit = part t (fitAt Z) (fitLong Z);
+      head = part t (head_at Z) (head_span Z);
+      slots = part t (slots_at Z) (slots_span Z);
+      members = part t (members_at Z) (members_span Z);
+      rows = part t (rows_at Z) (rows_span Z);
+      freed = part t (freed_at Z) (freed_span Z);
+      contacts = part t (contacts_at Z) (contacts_span Z);
+      touches = part t (touches_at Z) (touches_span Z);
+      joints = part t (joints_at Z) (joints_span Z);
+      keys = part t (keys_at Z) (keys_span Z);
+      spare = part t (spare_at Z) (spare_span Z);
+      journal = part t (journal_at Z) (journal_span Z);
+      scan = part t (scan_at Z) (scan_span Z);
+      fit = part t (fit_at Z) (fit_span Z);
     }
 
 -- one table set anew
 module _ (T : Tables) (x : List ℕ) where
-  abbrev pub head-put : Tables
-  head-put =
+  abbrev pub head_put : Tables
+  head_put =
       record {
         head = x;
         slots = T.slots;
@@ -162,8 +162,8 @@ module _ (T : Tables) (x : List ℕ) where
         fit = T.fit;
       }
 
-  abbrev pub slots-put : Tables
-  slots-put =
+  abbrev pub slots_put : Tables
+  slots_put =
       record {
         head = T.head;
         slots = x;
@@ -180,8 +180,8 @@ module _ (T : Tables) (x : List ℕ) where
         fit = T.fit;
       }
 
-  abbrev pub members-put : Tables
-  members-put =
+  abbrev pub members_put : Tables
+  members_put =
       record {
         head = T.head;
         slots = T.slots;
@@ -198,8 +198,8 @@ module _ (T : Tables) (x : List ℕ) where
         fit = T.fit;
       }
 
-  abbrev pub rows-put : Tables
-  rows-put =
+  abbrev pub rows_put : Tables
+  rows_put =
       record {
         head = T.head;
         slots = T.slots;
@@ -216,8 +216,8 @@ module _ (T : Tables) (x : List ℕ) where
         fit = T.fit;
       }
 
-  abbrev pub freed-put : Tables
-  freed-put =
+  abbrev pub freed_put : Tables
+  freed_put =
       record {
         head = T.head;
         slots = T.slots;
@@ -234,8 +234,8 @@ module _ (T : Tables) (x : List ℕ) where
         fit = T.fit;
       }
 
-  abbrev pub contacts-put : Tables
-  contacts-put =
+  abbrev pub contacts_put : Tables
+  contacts_put =
       record {
         head = T.head;
         slots = T.slots;
@@ -252,8 +252,8 @@ module _ (T : Tables) (x : List ℕ) where
         fit = T.fit;
       }
 
-  abbrev pub touches-put : Tables
-  touches-put =
+  abbrev pub touches_put : Tables
+  touches_put =
       record {
         head = T.head;
         slots = T.slots;
@@ -270,8 +270,8 @@ module _ (T : Tables) (x : List ℕ) where
         fit = T.fit;
       }
 
-  abbrev pub joints-put : Tables
-  joints-put =
+  abbrev pub joints_put : Tables
+  joints_put =
       record {
         head = T.head;
         slots = T.slots;
@@ -288,8 +288,8 @@ module _ (T : Tables) (x : List ℕ) where
         fit = T.fit;
       }
 
-  abbrev pub keys-put : Tables
-  keys-put =
+  abbrev pub keys_put : Tables
+  keys_put =
       record {
         head = T.head;
         slots = T.slots;
@@ -306,8 +306,8 @@ module _ (T : Tables) (x : List ℕ) where
         fit = T.fit;
       }
 
-  abbrev pub spare-put : Tables
-  spare-put =
+  abbrev pub spare_put : Tables
+  spare_put =
       record {
         head = T.head;
         slots = T.slots;
@@ -324,8 +324,8 @@ module _ (T : Tables) (x : List ℕ) where
         fit = T.fit;
       }
 
-  abbrev pub journal-put : Tables
-  journal-put =
+  abbrev pub journal_put : Tables
+  journal_put =
       record {
         head = T.head;
         slots = T.slots;
@@ -342,8 +342,8 @@ module _ (T : Tables) (x : List ℕ) where
         fit = T.fit;
       }
 
-  abbrev pub scan-put : Tables
-  scan-put =
+  abbrev pub scan_put : Tables
+  scan_put =
       record {
         head = T.head;
         slots = T.slots;
@@ -360,8 +360,8 @@ module _ (T : Tables) (x : List ℕ) where
         fit = T.fit;
       }
 
-  abbrev pub fit-put : Tables
-  fit-put =
+  abbrev pub fit_put : Tables
+  fit_put =
       record {
         head = T.head;
         slots = T.slots;
@@ -398,62 +398,62 @@ extents T =
 
 -- the six chain tables
 module _ (Z : Sizes) (T : Tables) where
-  abbrev pub members-in : View
-  members-in = view T.members 0 (4 * Z.slots)
+  abbrev pub members_in : View
+  members_in = view T.members 0 (4 * Z.slots)
 
-  abbrev pub contacts-in : View
-  contacts-in = view T.contacts 0 (4 * Z.edges)
+  abbrev pub contacts_in : View
+  contacts_in = view T.contacts 0 (4 * Z.edges)
 
-  abbrev pub joints-in : View
-  joints-in = view T.joints 0 (4 * Z.joints)
+  abbrev pub joints_in : View
+  joints_in = view T.joints 0 (4 * Z.joints)
 
-  abbrev pub freed-in : View
-  freed-in = view T.freed 0 (4 * Z.islands)
+  abbrev pub freed_in : View
+  freed_in = view T.freed 0 (4 * Z.islands)
 
-  abbrev pub spare-in : View
-  spare-in = view T.spare 0 (4 * Z.joints)
+  abbrev pub spare_in : View
+  spare_in = view T.spare 0 (4 * Z.joints)
 
-  abbrev pub scan-in : View
-  scan-in = view T.scan 0 (4 * Z.islands)
+  abbrev pub scan_in : View
+  scan_in = view T.scan 0 (4 * Z.islands)
 
 -- the words of an element in no list, of a list of no element
-abbrev pub elemWords : ℕ → List (ℕ × ℕ)
-elemWords j = (j, none) ∷ (j + 1, none) ∷ (j + 2, none) ∷ (j + 3, none) ∷ []
+abbrev pub elem_words : ℕ → List (ℕ × ℕ)
+elem_words j = (j, none) ∷ (j + 1, none) ∷ (j + 2, none) ∷ (j + 3, none) ∷ []
 
-abbrev pub listWords : ℕ → List (ℕ × ℕ)
-listWords j = (j, 0) ∷ (j + 1, none) ∷ []
+abbrev pub list_words : ℕ → List (ℕ × ℕ)
+list_words j = (j, 0) ∷ (j + 1, none) ∷ []
 
 -- ---- a table by its name
 
 abbrev pub table_at : Sizes → Table → ℕ
-table_at Z Head = headAt Z
-table_at Z Slots = slotsAt Z
-table_at Z Members = membersAt Z
+table_at Z Head = head_at Z
+table_at Z Slots = slots_at Z
+table_at Z Members = members_at Z
 table_at Z Rows = rows_at Z
-table_at Z Freed = freedAt Z
-table_at Z Contacts = contactsAt Z
-table_at Z Touches = touchesAt Z
-table_at Z Joints = jointsAt Z
-table_at Z Keys = keysAt Z
-table_at Z Spare = spareAt Z
-table_at Z Journal = journalAt Z
-table_at Z Scan = scanAt Z
-table_at Z Fit = fitAt Z
+table_at Z Freed = freed_at Z
+table_at Z Contacts = contacts_at Z
+table_at Z Touches = touches_at Z
+table_at Z Joints = joints_at Z
+table_at Z Keys = keys_at Z
+table_at Z Spare = spare_at Z
+table_at Z Journal = journal_at Z
+table_at Z Scan = scan_at Z
+table_at Z Fit = fit_at Z
 
-abbrev pub tableLong : Sizes → Table → ℕ
-tableLong Z Head = headLong Z
-tableLong Z Slots = slotsLong Z
-tableLong Z Members = membersLong Z
-tableLong Z Rows = rowsLong Z
-tableLong Z Freed = freedLong Z
-tableLong Z Contacts = contactsLong Z
-tableLong Z Touches = touchesLong Z
-tableLong Z Joints = jointsLong Z
-tableLong Z Keys = keysLong Z
-tableLong Z Spare = spareLong Z
-tableLong Z Journal = journalLong Z
-tableLong Z Scan = scanLong Z
-tableLong Z Fit = fitLong Z
+abbrev pub table_span : Sizes → Table → ℕ
+table_span Z Head = head_span Z
+table_span Z Slots = slots_span Z
+table_span Z Members = members_span Z
+table_span Z Rows = rows_span Z
+table_span Z Freed = freed_span Z
+table_span Z Contacts = contacts_span Z
+table_span Z Touches = touches_span Z
+table_span Z Joints = joints_span Z
+table_span Z Keys = keys_span Z
+table_span Z Spare = spare_span Z
+table_span Z Journal = journal_span Z
+table_span Z Scan = scan_span Z
+table_span Z Fit = fit_span Z
 
 abbrev pub table_of : Table → Tables → List ℕ
 table_of Head T = T.head
@@ -470,20 +470,20 @@ table_of Journal T = T.journal
 table_of Scan T = T.scan
 table_of Fit T = T.fit
 
-abbrev pub tablePut : Table → Tables → List ℕ → Tables
-tablePut Head T x = head-put T x
-tablePut Slots T x = slots-put T x
-tablePut Members T x = members-put T x
-tablePut Rows T x = rows-put T x
-tablePut Freed T x = freed-put T x
-tablePut Contacts T x = contacts-put T x
-tablePut Touches T x = touches-put T x
-tablePut Joints T x = joints-put T x
-tablePut Keys T x = keys-put T x
-tablePut Spare T x = spare-put T x
-tablePut Journal T x = journal-put T x
-tablePut Scan T x = scan-put T x
-tablePut Fit T x = fit-put T x
+abbrev pub table_put : Table → Tables → List ℕ → Tables
+table_put Head T x = head_put T x
+table_put Slots T x = slots_put T x
+table_put Members T x = members_put T x
+table_put Rows T x = rows_put T x
+table_put Freed T x = freed_put T x
+table_put Contacts T x = contacts_put T x
+table_put Touches T x = touches_put T x
+table_put Joints T x = joints_put T x
+table_put Keys T x = keys_put T x
+table_put Spare T x = spare_put T x
+table_put Journal T x = journal_put T x
+table_put Scan T x = scan_put T x
+table_put Fit T x = fit_put T x
 
 -- how many elements a chain table has room for, and how many lists; 0 for a table that is none
 abbrev pub room : Sizes → Table → ℕ
@@ -501,20 +501,20 @@ room Z Journal = 0
 room Z Scan = Z.islands
 room Z Fit = 0
 
-abbrev pub listRoom : Sizes → Table → ℕ
-listRoom Z Head = 0
-listRoom Z Slots = 0
-listRoom Z Members = Z.islands
-listRoom Z Rows = 0
-listRoom Z Freed = 1
-listRoom Z Contacts = Z.islands
-listRoom Z Touches = 0
-listRoom Z Joints = Z.islands
-listRoom Z Keys = 0
-listRoom Z Spare = 1
-listRoom Z Journal = 0
-listRoom Z Scan = 1
-listRoom Z Fit = 0
+abbrev pub list_room : Sizes → Table → ℕ
+list_room Z Head = 0
+list_room Z Slots = 0
+list_room Z Members = Z.islands
+list_room Z Rows = 0
+list_room Z Freed = 1
+list_room Z Contacts = Z.islands
+list_room Z Touches = 0
+list_room Z Joints = Z.islands
+list_room Z Keys = 0
+list_room Z Spare = 1
+list_room Z Journal = 0
+list_room Z Scan = 1
+list_room Z Fit = 0
 
-abbrev pub chain-in : Sizes → Table → Tables → View
-chain-in Z k T = view (table_of k T) 0 (4 * room Z k)
+abbrev pub chain_in : Sizes → Table → Tables → View
+chain_in Z k T = view (table_of k T) 0 (4 * room Z k)

@@ -5,7 +5,7 @@ ghost use Rattle.list_in_table.specs.Table.{pushed, removed, PushReady, RemoveRe
 ghost use Rattle.list_in_table.specs.Word.{writes};
 ghost use Rattle.list_splice.specs.Splice.{spliced, SpliceReady};
 ghost use Rattle.list_in_buffer.specs.Part.{Put};
-ghost use Rattle.table_meaning.specs.Layout.{tables, total, table_at, tableLong, table_of, room, listRoom, chain-in, members-in, contacts-in, contactsAt, contactsLong, touchesAt, jointsAt, jointsLong, keysAt, spareAt, spareLong, journalAt};
+ghost use Rattle.table_meaning.specs.Layout.{tables, total, table_at, table_span, table_of, room, list_room, chain_in, members_in, contacts_in, contacts_at, contacts_span, touches_at, joints_at, joints_span, keys_at, spare_at, spare_span, journal_at};
 
 use def_kinds::Sizes;
 use table_meaning::Table;
@@ -50,7 +50,7 @@ pub fn table_at(z: Sizes, k: Table) -> usize
 
 // How many words it has.
 pub fn table_long(z: Sizes, k: Table) -> usize
-    ensures { result ≡ tableLong z k }
+    ensures { result ≡ table_span z k }
 {
     let n = z.slots as usize;
     let m = z.islands as usize;
@@ -101,7 +101,7 @@ pub fn ends_at(z: Sizes, k: Table) -> usize
 
 // A word of a table.
 pub fn get(t: &[u32], z: Sizes, k: Table, j: usize) -> u32
-    requires { (length t.now ≡ total z) × (j < tableLong z k) }
+    requires { (length t.now ≡ total z) × (j < table_span z k) }
     ensures { (result ≡ get_or (table_of k (tables z t.now)) j 0) × (result ≤ 4294967295) }
 {
     let a = table_at(z, k);
@@ -111,7 +111,7 @@ pub fn get(t: &[u32], z: Sizes, k: Table, j: usize) -> u32
 
 // The same where the table is known to begin at a: for a walk over a table that its caller chose.
 pub fn get_from(t: &[u32], z: Sizes, k: Table, a: usize, j: usize) -> u32
-    requires { (length t.now ≡ total z) × (a ≡ table_at z k) × (j < tableLong z k) }
+    requires { (length t.now ≡ total z) × (a ≡ table_at z k) × (j < table_span z k) }
     ensures { (result ≡ get_or (table_of k (tables z t.now)) j 0) × (result ≤ 4294967295) }
 {
     let n = table_long(z, k);
@@ -119,8 +119,8 @@ pub fn get_from(t: &[u32], z: Sizes, k: Table, a: usize, j: usize) -> u32
 }
 
 pub fn set(t: &mut [u32], z: Sizes, k: Table, j: usize, v: u32)
-    requires { (length t.old ≡ total z) × (j < tableLong z k) }
-    ensures { Put (table_at z k) (tableLong z k) t.old t.new (set (table_of k (tables z t.old)) j v) }
+    requires { (length t.old ≡ total z) × (j < table_span z k) }
+    ensures { Put (table_at z k) (table_span z k) t.old t.new (set (table_of k (tables z t.old)) j v) }
 {
     let a = table_at(z, k);
     let n = table_long(z, k);
@@ -129,16 +129,16 @@ pub fn set(t: &mut [u32], z: Sizes, k: Table, j: usize, v: u32)
 
 // Two to five words from j on.
 pub fn set2(t: &mut [u32], z: Sizes, k: Table, j: usize, v0: u32, v1: u32)
-    requires { (length t.old ≡ total z) × (j + 2 ≤ tableLong z k) }
-    ensures { Put (table_at z k) (tableLong z k) t.old t.new (writes (table_of k (tables z t.old)) ((j, v0) ∷ (j + 1, v1) ∷ [])) }
+    requires { (length t.old ≡ total z) × (j + 2 ≤ table_span z k) }
+    ensures { Put (table_at z k) (table_span z k) t.old t.new (writes (table_of k (tables z t.old)) ((j, v0) ∷ (j + 1, v1) ∷ [])) }
 {
     set(t, z, k, j, v0);
     set(t, z, k, j + 1, v1);
 }
 
 pub fn set3(t: &mut [u32], z: Sizes, k: Table, j: usize, v0: u32, v1: u32, v2: u32)
-    requires { (length t.old ≡ total z) × (j + 3 ≤ tableLong z k) }
-    ensures { Put (table_at z k) (tableLong z k) t.old t.new (writes (table_of k (tables z t.old)) ((j, v0) ∷ (j + 1, v1) ∷ (j + 2, v2) ∷ [])) }
+    requires { (length t.old ≡ total z) × (j + 3 ≤ table_span z k) }
+    ensures { Put (table_at z k) (table_span z k) t.old t.new (writes (table_of k (tables z t.old)) ((j, v0) ∷ (j + 1, v1) ∷ (j + 2, v2) ∷ [])) }
 {
     set(t, z, k, j, v0);
     set(t, z, k, j + 1, v1);
@@ -146,8 +146,8 @@ pub fn set3(t: &mut [u32], z: Sizes, k: Table, j: usize, v0: u32, v1: u32, v2: u
 }
 
 pub fn set4(t: &mut [u32], z: Sizes, k: Table, j: usize, v0: u32, v1: u32, v2: u32, v3: u32)
-    requires { (length t.old ≡ total z) × (j + 4 ≤ tableLong z k) }
-    ensures { Put (table_at z k) (tableLong z k) t.old t.new (writes (table_of k (tables z t.old)) ((j, v0) ∷ (j + 1, v1) ∷ (j + 2, v2) ∷ (j + 3, v3) ∷ [])) }
+    requires { (length t.old ≡ total z) × (j + 4 ≤ table_span z k) }
+    ensures { Put (table_at z k) (table_span z k) t.old t.new (writes (table_of k (tables z t.old)) ((j, v0) ∷ (j + 1, v1) ∷ (j + 2, v2) ∷ (j + 3, v3) ∷ [])) }
 {
     set(t, z, k, j, v0);
     set(t, z, k, j + 1, v1);
@@ -166,8 +166,8 @@ pub fn set5(
     v3: u32,
     v4: u32,
 )
-    requires { (length t.old ≡ total z) × (j + 5 ≤ tableLong z k) }
-    ensures { Put (table_at z k) (tableLong z k) t.old t.new (writes (table_of k (tables z t.old)) ((j, v0) ∷ (j + 1, v1) ∷ (j + 2, v2) ∷ (j + 3, v3) ∷ (j + 4, v4) ∷ [])) }
+    requires { (length t.old ≡ total z) × (j + 5 ≤ table_span z k) }
+    ensures { Put (table_at z k) (table_span z k) t.old t.new (writes (table_of k (tables z t.old)) ((j, v0) ∷ (j + 1, v1) ∷ (j + 2, v2) ∷ (j + 3, v3) ∷ (j + 4, v4) ∷ [])) }
 {
     set(t, z, k, j, v0);
     set(t, z, k, j + 1, v1);
@@ -180,7 +180,7 @@ pub fn set5(
 
 pub fn home(t: &[u32], z: Sizes, k: Table, e: u32) -> u32
     requires { (length t.now ≡ total z) × (e < room z k) }
-    ensures { (result ≡ (chain-in z k (tables z t.now)).home e) × (result ≤ 4294967295) }
+    ensures { (result ≡ (chain_in z k (tables z t.now)).home e) × (result ≤ 4294967295) }
 {
     let a = table_at(z, k);
     let n = table_long(z, k);
@@ -188,8 +188,8 @@ pub fn home(t: &[u32], z: Sizes, k: Table, e: u32) -> u32
 }
 
 pub fn count(t: &[u32], z: Sizes, k: Table, i: u32) -> u32
-    requires { (length t.now ≡ total z) × (i < listRoom z k) }
-    ensures { (result ≡ (chain-in z k (tables z t.now)).count i) × (result ≤ 4294967295) }
+    requires { (length t.now ≡ total z) × (i < list_room z k) }
+    ensures { (result ≡ (chain_in z k (tables z t.now)).count i) × (result ≤ 4294967295) }
 {
     let a = table_at(z, k);
     let n = table_long(z, k);
@@ -198,8 +198,8 @@ pub fn count(t: &[u32], z: Sizes, k: Table, i: u32) -> u32
 }
 
 pub fn last(t: &[u32], z: Sizes, k: Table, i: u32) -> u32
-    requires { (length t.now ≡ total z) × (i < listRoom z k) }
-    ensures { (result ≡ (chain-in z k (tables z t.now)).last i) × (result ≤ 4294967295) }
+    requires { (length t.now ≡ total z) × (i < list_room z k) }
+    ensures { (result ≡ (chain_in z k (tables z t.now)).last i) × (result ≤ 4294967295) }
 {
     let a = table_at(z, k);
     let n = table_long(z, k);
@@ -236,7 +236,7 @@ pub fn member_word(t: &[u32], z: Sizes, j: usize) -> u32
 // How many bodies the island i has.
 pub fn body_count(t: &[u32], z: Sizes, i: u32) -> u32
     requires { (length t.now ≡ total z) × (i < z.islands) }
-    ensures { (result ≡ (members-in z (tables z t.now)).count i) × (result ≤ 4294967295) }
+    ensures { (result ≡ (members_in z (tables z t.now)).count i) × (result ≤ 4294967295) }
 {
     count(t, z, Table::Members, i)
 }
@@ -284,7 +284,7 @@ pub fn journal_word(t: &[u32], z: Sizes, j: usize) -> u32
 // The island of an edge's link: NONE where it has none.
 pub fn edge_home(t: &[u32], z: Sizes, e: u32) -> u32
     requires { (length t.now ≡ total z) × (e < z.edges) }
-    ensures { (result ≡ (contacts-in z (tables z t.now)).home e) × (result ≤ 4294967295) }
+    ensures { (result ≡ (contacts_in z (tables z t.now)).home e) × (result ≤ 4294967295) }
 {
     home(t, z, Table::Contacts, e)
 }
@@ -292,7 +292,7 @@ pub fn edge_home(t: &[u32], z: Sizes, e: u32) -> u32
 // The element e, which is in no list, is put last in the list i.
 pub fn push(t: &mut [u32], z: Sizes, k: Table, i: u32, e: u32)
     requires { (length t.old ≡ total z) × PushReady (table_of k (tables z t.old)) 0 (4 * room z k) i e }
-    ensures { Put (table_at z k) (tableLong z k) t.old t.new (pushed (table_of k (tables z t.old)) 0 (4 * room z k) i e) }
+    ensures { Put (table_at z k) (table_span z k) t.old t.new (pushed (table_of k (tables z t.old)) 0 (4 * room z k) i e) }
 {
     let a = table_at(z, k);
     let n = table_long(z, k);
@@ -303,7 +303,7 @@ pub fn push(t: &mut [u32], z: Sizes, k: Table, i: u32, e: u32)
 // The element e is taken out of its list, whose last element takes its place.
 pub fn remove(t: &mut [u32], z: Sizes, k: Table, e: u32)
     requires { (length t.old ≡ total z) × RemoveReady (table_of k (tables z t.old)) 0 (4 * room z k) e }
-    ensures { Put (table_at z k) (tableLong z k) t.old t.new (removed (table_of k (tables z t.old)) 0 (4 * room z k) e) }
+    ensures { Put (table_at z k) (table_span z k) t.old t.new (removed (table_of k (tables z t.old)) 0 (4 * room z k) e) }
 {
     let a = table_at(z, k);
     let n = table_long(z, k);
@@ -314,7 +314,7 @@ pub fn remove(t: &mut [u32], z: Sizes, k: Table, e: u32)
 // The list small is put behind the list big, and is empty then. The work is that of small.
 pub fn splice(t: &mut [u32], z: Sizes, k: Table, big: u32, small: u32)
     requires { (length t.old ≡ total z) × SpliceReady (table_of k (tables z t.old)) 0 (4 * room z k) big small }
-    ensures { Put (table_at z k) (tableLong z k) t.old t.new (spliced (table_of k (tables z t.old)) 0 (4 * room z k) big small) }
+    ensures { Put (table_at z k) (table_span z k) t.old t.new (spliced (table_of k (tables z t.old)) 0 (4 * room z k) big small) }
 {
     let a = table_at(z, k);
     let n = table_long(z, k);
@@ -335,7 +335,7 @@ pub fn set_head(t: &mut [u32], z: Sizes, j: usize, v: u32)
 // Four words of an edge.
 pub fn set_touch(t: &mut [u32], z: Sizes, j: usize, v0: u32, v1: u32, v2: u32, v3: u32)
     requires { (length t.old ≡ total z) × (j + 4 ≤ 4 * z.edges) }
-    ensures { Put (touchesAt z) (4 * z.edges) t.old t.new (writes (tables z t.old).touches ((j, v0) ∷ (j + 1, v1) ∷ (j + 2, v2) ∷ (j + 3, v3) ∷ [])) }
+    ensures { Put (touches_at z) (4 * z.edges) t.old t.new (writes (tables z t.old).touches ((j, v0) ∷ (j + 1, v1) ∷ (j + 2, v2) ∷ (j + 3, v3) ∷ [])) }
 {
     set4(t, z, Table::Touches, j, v0, v1, v2, v3);
 }
@@ -343,7 +343,7 @@ pub fn set_touch(t: &mut [u32], z: Sizes, j: usize, v0: u32, v1: u32, v2: u32, v
 // Four words of a joint place.
 pub fn set_key(t: &mut [u32], z: Sizes, j: usize, v0: u32, v1: u32, v2: u32, v3: u32)
     requires { (length t.old ≡ total z) × (j + 4 ≤ 8 * z.joints) }
-    ensures { Put (keysAt z) (8 * z.joints) t.old t.new (writes (tables z t.old).keys ((j, v0) ∷ (j + 1, v1) ∷ (j + 2, v2) ∷ (j + 3, v3) ∷ [])) }
+    ensures { Put (keys_at z) (8 * z.joints) t.old t.new (writes (tables z t.old).keys ((j, v0) ∷ (j + 1, v1) ∷ (j + 2, v2) ∷ (j + 3, v3) ∷ [])) }
 {
     set4(t, z, Table::Keys, j, v0, v1, v2, v3);
 }
@@ -351,7 +351,7 @@ pub fn set_key(t: &mut [u32], z: Sizes, j: usize, v0: u32, v1: u32, v2: u32, v3:
 // Four words of the journal.
 pub fn set_entry(t: &mut [u32], z: Sizes, j: usize, v0: u32, v1: u32, v2: u32, v3: u32)
     requires { (length t.old ≡ total z) × (j + 4 ≤ 4 * z.journal) }
-    ensures { Put (journalAt z) (4 * z.journal) t.old t.new (writes (tables z t.old).journal ((j, v0) ∷ (j + 1, v1) ∷ (j + 2, v2) ∷ (j + 3, v3) ∷ [])) }
+    ensures { Put (journal_at z) (4 * z.journal) t.old t.new (writes (tables z t.old).journal ((j, v0) ∷ (j + 1, v1) ∷ (j + 2, v2) ∷ (j + 3, v3) ∷ [])) }
 {
     set4(t, z, Table::Journal, j, v0, v1, v2, v3);
 }
@@ -359,7 +359,7 @@ pub fn set_entry(t: &mut [u32], z: Sizes, j: usize, v0: u32, v1: u32, v2: u32, v
 // The edge e is taken out of its island's list.
 pub fn remove_edge(t: &mut [u32], z: Sizes, e: u32)
     requires { (length t.old ≡ total z) × RemoveReady (tables z t.old).contacts 0 (4 * z.edges) e }
-    ensures { Put (contactsAt z) (contactsLong z) t.old t.new (removed (tables z t.old).contacts 0 (4 * z.edges) e) }
+    ensures { Put (contacts_at z) (contacts_span z) t.old t.new (removed (tables z t.old).contacts 0 (4 * z.edges) e) }
 {
     remove(t, z, Table::Contacts, e);
 }
@@ -367,7 +367,7 @@ pub fn remove_edge(t: &mut [u32], z: Sizes, e: u32)
 // The joint place p is taken out of its island's list.
 pub fn remove_joint(t: &mut [u32], z: Sizes, p: u32)
     requires { (length t.old ≡ total z) × RemoveReady (tables z t.old).joints 0 (4 * z.joints) p }
-    ensures { Put (jointsAt z) (jointsLong z) t.old t.new (removed (tables z t.old).joints 0 (4 * z.joints) p) }
+    ensures { Put (joints_at z) (joints_span z) t.old t.new (removed (tables z t.old).joints 0 (4 * z.joints) p) }
 {
     remove(t, z, Table::Joints, p);
 }
@@ -375,14 +375,14 @@ pub fn remove_joint(t: &mut [u32], z: Sizes, p: u32)
 // The joint place p is the last that was freed.
 pub fn push_spare(t: &mut [u32], z: Sizes, p: u32)
     requires { (length t.old ≡ total z) × PushReady (tables z t.old).spare 0 (4 * z.joints) 0 p }
-    ensures { Put (spareAt z) (spareLong z) t.old t.new (pushed (tables z t.old).spare 0 (4 * z.joints) 0 p) }
+    ensures { Put (spare_at z) (spare_span z) t.old t.new (pushed (tables z t.old).spare 0 (4 * z.joints) 0 p) }
 {
     push(t, z, Table::Spare, 0, p);
 }
 
 // Do the rules of a chain table hold of its first n elements and m lists?
 pub fn chains_hold(t: &[u32], z: Sizes, k: Table, n: u32, m: u32) -> bool
-    requires { (length t.now ≡ total z) × (n ≤ room z k) × (m ≤ listRoom z k) }
+    requires { (length t.now ≡ total z) × (n ≤ room z k) × (m ≤ list_room z k) }
     ensures { Is result (Wf (table_of k (tables z t.now)) 0 (4 * room z k) n m) }
 {
     let a = table_at(z, k);

@@ -11,11 +11,11 @@ use Rattle.def_kinds.specs.Number.{rig}
 use Rattle.def_state.specs.World.{Handle, Key, World, Step}
 use Rattle.def_state.specs.Bodies.{put, flags, retire}
 use Rattle.def_state.specs.Membership.{ensure, remove}
-use Rattle.def_state.specs.Links.{link-contact, unlink-contact, contact-edge-removed, link-joint, unlink-joint}
-use Rattle.def_state.specs.Resolver.{resolve-removals}
-use Rattle.def_state.specs.Chain.{refresh-multibody-chain}
-use Rattle.def_state.specs.Split.{split-island-now, schedule-split, run-pending-split}
-use Rattle.def_state.specs.Scan.{begin-sleep-scan, observe-body-for-sleep, mark-island-sleeping, wake-island}
+use Rattle.def_state.specs.Links.{link_contact, unlink_contact, contact_edge_removed, link_joint, unlink_joint}
+use Rattle.def_state.specs.Resolver.{resolve_removals}
+use Rattle.def_state.specs.Chain.{refresh_multibody_chain}
+use Rattle.def_state.specs.Split.{split_island_now, schedule_split, run_pending_split}
+use Rattle.def_state.specs.Scan.{begin_sleep_scan, observe_body_for_sleep, mark_island_sleeping, wake_island}
 use Rattle.def_state.specs.Calls.{Reset as ResetCall, Put, Retire, Flags, Ensure, Remove, Contact, Uncontact, Renumber, Joint, Unjoint, Chain, Resolve, Split, Schedule, Run, Begin, Observe, Finish as FinishCall, Sleep, Wake, finished, perform}
 use Rattle.table_meaning.specs.Does.{Called, Reset}
 use Rattle.core_finish.specs.Listing.{Finish}
@@ -52,59 +52,59 @@ module _ {Z : Sizes} {t t' : List ℕ} {r : Answer} where
   unfolding perform
   remove-next h d H = call H (Remove h) r d
 
-  pub contact-next : (e : ℕ) (h1 h2 : Handle) → Called Z (link-contact Z e h1 h2) t r t' → History Z t → History Z t'
+  pub contact-next : (e : ℕ) (h1 h2 : Handle) → Called Z (link_contact Z e h1 h2) t r t' → History Z t → History Z t'
   unfolding perform
   contact-next e h1 h2 d H = call H (Contact e h1 h2) r d
 
-  pub uncontact-next : (e : ℕ) → Called Z (unlink-contact Z e) t r t' → History Z t → History Z t'
+  pub uncontact-next : (e : ℕ) → Called Z (unlink_contact Z e) t r t' → History Z t → History Z t'
   unfolding perform
   uncontact-next e d H = call H (Uncontact e) r d
 
-  pub renumber-next : (removed last : ℕ) → Called Z (contact-edge-removed removed last) t r t' → History Z t → History Z t'
+  pub renumber-next : (removed last : ℕ) → Called Z (contact_edge_removed removed last) t r t' → History Z t → History Z t'
   unfolding perform
   renumber-next removed last d H = call H (Renumber removed last) r d
 
-  pub joint-next : (q : Key) (h1 h2 : Handle) → Called Z (link-joint Z q h1 h2) t r t' → History Z t → History Z t'
+  pub joint-next : (q : Key) (h1 h2 : Handle) → Called Z (link_joint Z q h1 h2) t r t' → History Z t → History Z t'
   unfolding perform
   joint-next q h1 h2 d H = call H (Joint q h1 h2) r d
 
-  pub unjoint-next : (q : Key) → Called Z (unlink-joint Z q) t r t' → History Z t → History Z t'
+  pub unjoint-next : (q : Key) → Called Z (unlink_joint Z q) t r t' → History Z t → History Z t'
   unfolding perform
   unjoint-next q d H = call H (Unjoint q) r d
 
-  pub chain_next : (high low : ℕ) (hs : List Handle) → Called Z (refresh-multibody-chain Z high low hs) t r t' → History Z t → History Z t'
+  pub chain_next : (high low : ℕ) (hs : List Handle) → Called Z (refresh_multibody_chain Z high low hs) t r t' → History Z t → History Z t'
   unfolding perform
   chain_next high low hs d H = call H (Chain high low hs) r d
 
-  pub resolve-next : Called Z resolve-removals t r t' → History Z t → History Z t'
+  pub resolve-next : Called Z resolve_removals t r t' → History Z t → History Z t'
   unfolding perform
   resolve-next d H = call H Resolve r d
 
-  pub split-next : (i : ℕ) → Called Z (split-island-now i) t r t' → History Z t → History Z t'
+  pub split-next : (i : ℕ) → Called Z (split_island_now i) t r t' → History Z t → History Z t'
   unfolding perform
   split-next i d H = call H (Split i) r d
 
-  pub schedule-next : (i : ℕ) → Called Z (schedule-split i) t r t' → History Z t → History Z t'
+  pub schedule-next : (i : ℕ) → Called Z (schedule_split i) t r t' → History Z t → History Z t'
   unfolding perform
   schedule-next i d H = call H (Schedule i) r d
 
-  pub run-next : Called Z run-pending-split t r t' → History Z t → History Z t'
+  pub run-next : Called Z run_pending_split t r t' → History Z t → History Z t'
   unfolding perform
   run-next d H = call H Run r d
 
-  pub begin-next : Called Z begin-sleep-scan t r t' → History Z t → History Z t'
+  pub begin-next : Called Z begin_sleep_scan t r t' → History Z t → History Z t'
   unfolding perform
   begin-next d H = call H Begin r d
 
-  pub observe-next : (i : ℕ) (e : Bool) → Called Z (observe-body-for-sleep i e) t r t' → History Z t → History Z t'
+  pub observe-next : (i : ℕ) (e : Bool) → Called Z (observe_body_for_sleep i e) t r t' → History Z t → History Z t'
   unfolding perform
   observe-next i e d H = call H (Observe i e) r d
 
-  pub sleep-next : (i : ℕ) → Called Z (mark-island-sleeping i) t r t' → History Z t → History Z t'
+  pub sleep-next : (i : ℕ) → Called Z (mark_island_sleeping i) t r t' → History Z t → History Z t'
   unfolding perform
   sleep-next i d H = call H (Sleep i) r d
 
-  pub wake-next : (i : ℕ) → Called Z (wake-island i) t r t' → History Z t → History Z t'
+  pub wake-next : (i : ℕ) → Called Z (wake_island i) t r t' → History Z t → History Z t'
   unfolding perform
   wake-next i d H = call H (Wake i) r d
 

@@ -9,12 +9,12 @@ use lib.Dec.{ltb}
 use Rattle.def_kinds.specs.Choice.{pick}
 use Rattle.def_kinds.specs.declared.Sizes.{Sizes}
 use Rattle.def_state.specs.World.{Handle, chain, World, Step}
-use Rattle.def_state.specs.Links.{jointRoom}
-use Rattle.def_state.specs.Chain.{chained, oldLength, unlinked, linked, linkedAll, refresh-multibody-chain}
+use Rattle.def_state.specs.Links.{joint_room}
+use Rattle.def_state.specs.Chain.{chained, old_length, unlinked, linked, linked_all, refresh_multibody_chain}
 use Rattle.def_state.specs.Calls.{Call, Reset, Put, Retire, Flags, Ensure, Remove, Contact, Uncontact, Renumber, Joint, Unjoint, Chain, Resolve, Split, Schedule, Run, Begin, Observe, Finish, Sleep, Wake, perform, run}
 use Rattle.theorem_split.specs.Fine.{Apart, Fine}
 use Rattle.theorem_split.specs.Graph.{Bond}
-use Rattle.theorem_history.specs.Ties.{Event, nothing, eventOf, isDone, event, unlinks, links, linksAll, parts, tied, tiedAll, recorded, recordedAll}
+use Rattle.theorem_history.specs.Ties.{Event, nothing, event_of, is_done, event, unlinks, links, links_all, parts, TiedAfter, TiedAfterAll, RecordedAfter, RecordedAfterAll}
 use Rattle.theorem_history.proofs.Change.{EntersIn}
 use Rattle.theorem_history.proofs.Change.{Calm, Change, same, fresh}
 use Rattle.theorem_history.proofs.Keep.{Held, keep-ties, Closed, keep-closed}
@@ -41,18 +41,18 @@ Entering Z (c ∷ cs) w = EntersIn w (perform Z c w).after × Entering Z cs (per
 
 -- ---- three things that a run of changes keeps
 
-pub ties-run : (Z : Sizes) (cs : List Call) (w : World) → Changed Z cs w → (T : Bond → Type 0) → ((l : Bond) → T l → Held w l) → (l : Bond) → tiedAll Z cs w T l → Held (run Z cs w) l
+pub ties-run : (Z : Sizes) (cs : List Call) (w : World) → Changed Z cs w → (T : Bond → Type 0) → ((l : Bond) → T l → Held w l) → (l : Bond) → TiedAfterAll Z cs w T l → Held (run Z cs w) l
 unfolding run
 ties-run Z [] w C T K l t = K l t
 ties-run Z (c ∷ cs) w C T K l t =
-    ties-run Z cs (perform Z c w).after C.1 (tied (event Z c w) w (perform Z c w).after T) (keep-ties T K C.0) l t
+    ties-run Z cs (perform Z c w).after C.1 (TiedAfter (event Z c w) w (perform Z c w).after T) (keep-ties T K C.0) l t
 
 pub recorded-run : (Z : Sizes) (cs : List Call) (w : World) → Changed Z cs w → (R : Bond → Type 0) → ((l : Bond) → R l ↔ Somewhere w l) → (l : Bond)
-    → recordedAll Z cs w R l ↔ Somewhere (run Z cs w) l
+    → RecordedAfterAll Z cs w R l ↔ Somewhere (run Z cs w) l
 unfolding run
 recorded-run Z [] w C R K l = K l
 recorded-run Z (c ∷ cs) w C R K l =
-    recorded-run Z cs (perform Z c w).after C.1 (recorded (event Z c w) w R) (keep-recorded w (perform Z c w).after R K C.0) l
+    recorded-run Z cs (perform Z c w).after C.1 (RecordedAfter (event Z c w) w R) (keep-recorded w (perform Z c w).after R K C.0) l
 
 pub closed_run : (Z : Sizes) (cs : List Call) (w : World) → Changed Z cs w → Entering Z cs w → Closed w → Closed (run Z cs w)
 unfolding run
@@ -89,12 +89,12 @@ module _ (Z : Sizes) (high low : ℕ) where
       let t = link-run (o + 1) h hs (perform Z (Joint (chain high low o) prev h) w).after c.1 c.2 in
       record { changed = (c.0, t.changed); ends = t.ends; entering = (calm-enters w _ c.3, t.entering) }
 
-  links-run : (hs : List Handle) (w : World) → Apart w → Keyed w → Through (linksAll high low hs) w (linkedAll Z high low hs w)
-  unfolding run linkedAll
+  links-run : (hs : List Handle) (w : World) → Apart w → Keyed w → Through (links_all high low hs) w (linked_all Z high low hs w)
+  unfolding run linked_all
   links-run [] w A K = record { changed = tt; ends = refl; entering = tt }
   links-run (h ∷ hs) w A K = link-run 0 h hs w A K
 
-  unlink-run : (o k : ℕ) (hs : List Handle) (w : World) → Apart w → Keyed w → Through (unlinks high low o k ++ linksAll high low hs) w (linkedAll Z high low hs (unlinked Z high low o k w))
+  unlink-run : (o k : ℕ) (hs : List Handle) (w : World) → Apart w → Keyed w → Through (unlinks high low o k ++ links_all high low hs) w (linked_all Z high low hs (unlinked Z high low o k w))
   unfolding run unlinked perform
   unlink-run o zero hs w A K = links-run hs w A K
   unlink-run o (suc k) hs w A K =
@@ -104,18 +104,18 @@ module _ (Z : Sizes) (high low : ℕ) where
 
   -- the parts of a refresh that answers s
   abbrev Refreshes : List Handle → World → Step → Type 0
-  Refreshes hs w s = Runs Z (pick (isDone s) (unlinks high low 0 (oldLength Z w high low) ++ linksAll high low (chained w hs)) []) w s.after
+  Refreshes hs w s = Runs Z (pick (is_done s) (unlinks high low 0 (old_length Z w high low) ++ links_all high low (chained w hs)) []) w s.after
 
   chain_run : (hs : List Handle) (w : World) → Apart w → Keyed w → Runs Z (parts Z (Chain high low hs) w) w (perform Z (Chain high low hs) w).after
-  unfolding perform refresh-multibody-chain run
+  unfolding perform refresh_multibody_chain run
   chain_run hs w A K =
       ways (Refreshes hs w) (ltb Z.slots (length hs)) (λ q. record { changed = tt; ends = refl; entering = λ e. tt })
       (λ q.
-      ways (Refreshes hs w) (ltb (jointRoom Z w + oldLength Z w high low) (length (chained w hs) - 1)) (λ q. record { changed = tt; ends = refl; entering = λ e. tt })
+      ways (Refreshes hs w) (ltb (joint_room Z w + old_length Z w high low) (length (chained w hs) - 1)) (λ q. record { changed = tt; ends = refl; entering = λ e. tt })
       (λ q.
-      ways (Refreshes hs w) (ltb (Z.journal - length w.removal-journal) (oldLength Z w high low)) (λ q. record { changed = tt; ends = refl; entering = λ e. tt })
+      ways (Refreshes hs w) (ltb (Z.journal - length w.removal_journal) (old_length Z w high low)) (λ q. record { changed = tt; ends = refl; entering = λ e. tt })
       (λ q.
-      let t = unlink-run 0 (oldLength Z w high low) (chained w hs) w A K in
+      let t = unlink-run 0 (old_length Z w high low) (chained w hs) w A K in
       record { changed = t.changed; ends = t.ends; entering = λ e. t.entering })))
 
 -- ---- every call
@@ -124,11 +124,11 @@ single : (Z : Sizes) (c : Call) (w : World) → Change (event Z c w) w (perform 
 unfolding run
 single Z c w C = record { changed = (C, tt); ends = refl; entering = λ e. (e, tt) }
 
--- a call that says nothing of the recorded links
-quiet : (Z : Sizes) (c : Call) (w : World) → eventOf c w ≡ nothing → Change nothing w (perform Z c w).after → Runs Z (c ∷ []) w (perform Z c w).after
-quiet Z c w e C = single Z c w (go (isDone (perform Z c w)))
+-- a call that says nothing of the RecordedAfter links
+quiet : (Z : Sizes) (c : Call) (w : World) → event_of c w ≡ nothing → Change nothing w (perform Z c w).after → Runs Z (c ∷ []) w (perform Z c w).after
+quiet Z c w e C = single Z c w (go (is_done (perform Z c w)))
   where
-    go : (b : Bool) → Change (pick b (eventOf c w) nothing) w (perform Z c w).after
+    go : (b : Bool) → Change (pick b (event_of c w) nothing) w (perform Z c w).after
     go true = subst (λ (x : Event). Change x w (perform Z c w).after) (sym e) C
     go false = C
 

@@ -15,14 +15,14 @@ use Rattle.list_in_table.proofs.Same.{below}
 use Rattle.table_meaning.proofs.Tab.{get_d_beyond}
 use Rattle.def_kinds.specs.declared.Sizes.{Sizes}
 use Rattle.def_state.specs.Plain.{top}
-use Rattle.def_state.specs.World.{Handle, Body, noBody, ContactLink, JointLink, Island, noIsland, World, Step, body_of, islandAt, named, islandBelow, islandOf, body-island, live}
-use Rattle.def_state.specs.Fields.{bodies-set, split-set, scan-set, island-set, sleeping-set}
-use Rattle.def_state.specs.Membership.{clear-pending-split-of}
+use Rattle.def_state.specs.World.{Handle, Body, absent_body, ContactLink, JointLink, Island, absent_island, World, Step, body_of, island_at, named, island_below, island_of, body_island, live}
+use Rattle.def_state.specs.Fields.{bodies_set, split_set, scan_set, island_set, sleeping_set}
+use Rattle.def_state.specs.Membership.{clear_pending_split_of}
 use Rattle.def_state.specs.Bodies.{grown, filled, placed, put, flags}
-use Rattle.def_state.specs.Split.{schedule-split}
-use Rattle.def_state.specs.Scan.{begin-sleep-scan, observe-body-for-sleep, observed, Listing, sleepables, finish-sleep-scan, mark-island-sleeping, wake-island}
+use Rattle.def_state.specs.Split.{schedule_split}
+use Rattle.def_state.specs.Scan.{begin_sleep_scan, observe_body_for_sleep, observed, Listing, sleepables, finish_sleep_scan, mark_island_sleeping, wake_island}
 use Rattle.def_state.specs.Calls.{finished}
-use Rattle.theorem_split.specs.Graph.{In, ofContact, ofJoint}
+use Rattle.theorem_split.specs.Graph.{In, of_contact, of_joint}
 use Rattle.theorem_split.specs.Fine.{Fine}
 use Rattle.theorem_split.proofs.Homes.{member, named-generation}
 use Rattle.theorem_history.proofs.Change.{Same}
@@ -44,17 +44,17 @@ set-part f xs i a d e j =
 
 -- ---- a body's island, where names and lists are as they were
 
-pub below-same : (is js : List Island) (s k : ℕ) → ((j : ℕ) → (get_or js j noIsland).bodies ≡ (get_or is j noIsland).bodies) → islandBelow js s k ≡ islandBelow is s k
-unfolding islandBelow
+pub below-same : (is js : List Island) (s k : ℕ) → ((j : ℕ) → (get_or js j absent_island).bodies ≡ (get_or is j absent_island).bodies) → island_below js s k ≡ island_below is s k
+unfolding island_below
 below-same is js s zero h = refl
 below-same is js s (suc k) h = rw (h k, below-same is js s k h)
 
-pub slot_same : (w v : World) → length v.islands ≡ length w.islands → ((j : ℕ) → (islandAt v j).bodies ≡ (islandAt w j).bodies) → (s : ℕ) → islandOf v s ≡ islandOf w s
-unfolding islandOf
+pub slot_same : (w v : World) → length v.islands ≡ length w.islands → ((j : ℕ) → (island_at v j).bodies ≡ (island_at w j).bodies) → (s : ℕ) → island_of v s ≡ island_of w s
+unfolding island_of
 slot_same w v e h s = rw e (below-same w.islands v.islands s (length w.islands) h)
 
-pub home_same : (w v : World) (h : Handle) → named v h ≡ named w h → islandOf v h.slot ≡ islandOf w h.slot → body-island v h ≡ body-island w h
-unfolding body-island
+pub home_same : (w v : World) (h : Handle) → named v h ≡ named w h → island_of v h.slot ≡ island_of w h.slot → body_island v h ≡ body_island w h
+unfolding body_island
 home_same w v h p q = rw (p, q)
 
 pub named-same : (w v : World) (h : Handle) → (body_of v h.slot).generation ≡ (body_of w h.slot).generation → named v h ≡ named w h
@@ -69,18 +69,18 @@ pub record Seen : Type 0 where
   pub removals : ℕ
 
 abbrev pub seen : Island → Seen
-seen a = record { bodies = a.bodies; contacts = a.contact-links; joints = a.joint-links; removals = a.constraint-remove-count }
+seen a = record { bodies = a.bodies; contacts = a.contact_links; joints = a.joint_links; removals = a.constraint_remove_count }
 
 -- the same generations, the same islands but for what is not seen, the same journal
 pub same_by : (w v : World) → ((s : ℕ) → (body_of v s).generation ≡ (body_of w s).generation) → length v.islands ≡ length w.islands
-    → ((j : ℕ) → seen (islandAt v j) ≡ seen (islandAt w j))
-    → v.removal-journal ≡ w.removal-journal
+    → ((j : ℕ) → seen (island_at v j) ≡ seen (island_at w j))
+    → v.removal_journal ≡ w.removal_journal
     → Same w v
 same_by w v g e f j =
     record {
       home = λ h. home_same w v h (named-same w v h (g h.slot)) (slot_same w v e (λ i. ap (λ (s : Seen). s.bodies) (f i)) h.slot);
-      to = λ i l s. subst (λ (x : Seen). In l (map ofContact x.contacts ++ map ofJoint x.joints)) (sym (f i)) s;
-      from = λ i l s. subst (λ (x : Seen). In l (map ofContact x.contacts ++ map ofJoint x.joints)) (f i) s;
+      to = λ i l s. subst (λ (x : Seen). In l (map of_contact x.contacts ++ map of_joint x.joints)) (sym (f i)) s;
+      from = λ i l s. subst (λ (x : Seen). In l (map of_contact x.contacts ++ map of_joint x.joints)) (f i) s;
       counts = λ i. ap (λ (s : Seen). s.removals) (f i);
       journal = j;
     }
@@ -90,19 +90,19 @@ same_refl w = record { home = λ h. refl; to = λ i l s. s; from = λ i l s. s; 
 
 -- ---- the body table
 
-getD-vacant : (xs : List Body) (k j : ℕ) → get_or (xs ++ replicate k noBody) j noBody ≡ get_or xs j noBody
-getD-vacant xs k j =
-    below j (length xs) (λ l. get_or-append xs (replicate k noBody) noBody j l)
+get_or-vacant : (xs : List Body) (k j : ℕ) → get_or (xs ++ replicate k absent_body) j absent_body ≡ get_or xs j absent_body
+get_or-vacant xs k j =
+    below j (length xs) (λ l. get_or-append xs (replicate k absent_body) absent_body j l)
     (λ l.
     let e : length xs + (j - length xs) ≡ j = omega arith in
-    subst (λ (n : ℕ). get_or (xs ++ replicate k noBody) n noBody ≡ noBody) e
-    (get_or-append-add xs (replicate k noBody) (j - length xs) noBody ∙ vacant k (j - length xs))
-    ∙ sym (get_d_beyond xs noBody j l))
+    subst (λ (n : ℕ). get_or (xs ++ replicate k absent_body) n absent_body ≡ absent_body) e
+    (get_or-append-add xs (replicate k absent_body) (j - length xs) absent_body ∙ vacant k (j - length xs))
+    ∙ sym (get_d_beyond xs absent_body j l))
   where
-    vacant : (k j : ℕ) → get_or (replicate k noBody) j noBody ≡ noBody
+    vacant : (k j : ℕ) → get_or (replicate k absent_body) j absent_body ≡ absent_body
     vacant k j =
-        below j k (λ l. get_or-replicate k j noBody noBody l)
-        (λ l. get_d_beyond (replicate k noBody) noBody j (let h = length-replicate k noBody in omega arith))
+        below j k (λ l. get_or-replicate k j absent_body absent_body l)
+        (λ l. get_d_beyond (replicate k absent_body) absent_body j (let h = length-replicate k absent_body in omega arith))
 
 module _ (Z : Sizes) (w : World) (F : Fine w) (h : Handle) (f e z : Bool) where
   -- a vacant slot takes a body, which is in no island
@@ -113,13 +113,13 @@ module _ (Z : Sizes) (w : World) (F : Fine w) (h : Handle) (f e z : Bool) where
         home =
             λ k.
             either k.slot h.slot
-            (λ q. out k (placed h f e z w) (λ i m. nobody i (subst (λ (s : ℕ). In s (islandAt w i).bodies) q m)) ∙ sym (out k w (λ i m. nobody i (subst (λ (s : ℕ). In s (islandAt w i).bodies) q m))))
+            (λ q. out k (placed h f e z w) (λ i m. nobody i (subst (λ (s : ℕ). In s (island_at w i).bodies) q m)) ∙ sym (out k w (λ i m. nobody i (subst (λ (s : ℕ). In s (island_at w i).bodies) q m))))
             (λ d.
             home_same w (placed h f e z w) k
             (named-same w (placed h f e z w) k
             (ap (λ (b : Body). b.generation)
-            (get_or-set_other (w.bodies ++ replicate (h.slot + 1 - length w.bodies) noBody) h.slot k.slot (filled h f e z (body_of w h.slot)) noBody d
-            ∙ getD-vacant w.bodies (h.slot + 1 - length w.bodies) k.slot)))
+            (get_or-set_other (w.bodies ++ replicate (h.slot + 1 - length w.bodies) absent_body) h.slot k.slot (filled h f e z (body_of w h.slot)) absent_body d
+            ∙ get_or-vacant w.bodies (h.slot + 1 - length w.bodies) k.slot)))
             (slot_same w (placed h f e z w) refl (λ j. refl) k.slot));
         to = λ i l s. s;
         from = λ i l s. s;
@@ -127,11 +127,11 @@ module _ (Z : Sizes) (w : World) (F : Fine w) (h : Handle) (f e z : Bool) where
         journal = refl;
       }
     where
-      nobody : (i : ℕ) → In h.slot (islandAt w i).bodies → ⊥
+      nobody : (i : ℕ) → In h.slot (island_at w i).bodies → ⊥
       nobody i m = F.alive i h.slot m vacant
 
-      out : (k : Handle) (v : World) → ((i : ℕ) → In k.slot (islandAt v i).bodies → ⊥) → body-island v k ≡ top
-      out k v o = either (body-island v k) top (λ q. q) (λ d. absurd (o (body-island v k) (member v (body-island v k) k refl d).listed))
+      out : (k : Handle) (v : World) → ((i : ℕ) → In k.slot (island_at v i).bodies → ⊥) → body_island v k ≡ top
+      out k v o = either (body_island v k) top (λ q. q) (λ d. absurd (o (body_island v k) (member v (body_island v k) k refl d).listed))
 
   pub put_same : Same w (put Z h f e z w).after
   unfolding put
@@ -151,8 +151,8 @@ module _ (Z : Sizes) (w : World) (F : Fine w) (h : Handle) (f e z : Bool) where
   flags-same =
       ways (λ (s : Step). Same w s.after) (named w h)
       (λ n.
-      same_by w (bodies-set w (set w.bodies h.slot (filled h f e z (body_of w h.slot))))
-      (set-part (λ (b : Body). b.generation) w.bodies h.slot (filled h f e z (body_of w h.slot)) noBody (sym (named-generation w h n).0))
+      same_by w (bodies_set w (set w.bodies h.slot (filled h f e z (body_of w h.slot))))
+      (set-part (λ (b : Body). b.generation) w.bodies h.slot (filled h f e z (body_of w h.slot)) absent_body (sym (named-generation w h n).0))
       refl
       (λ j. refl)
       refl)
@@ -160,47 +160,47 @@ module _ (Z : Sizes) (w : World) (F : Fine w) (h : Handle) (f e z : Bool) where
 
 -- ---- the waiting split, the scan, sleep
 
-pub schedule-same : (i : ℕ) (w : World) → Same w (schedule-split i w).after
-unfolding schedule-split
-schedule-same i w = same_by w (split-set w (some i)) (λ s. refl) refl (λ j. refl) refl
+pub schedule-same : (i : ℕ) (w : World) → Same w (schedule_split i w).after
+unfolding schedule_split
+schedule-same i w = same_by w (split_set w (some i)) (λ s. refl) refl (λ j. refl) refl
 
-pub pending-same : (o : Option ℕ) (w : World) → Same w (split-set w o)
-pending-same o w = same_by w (split-set w o) (λ s. refl) refl (λ j. refl) refl
+pub pending-same : (o : Option ℕ) (w : World) → Same w (split_set w o)
+pending-same o w = same_by w (split_set w o) (λ s. refl) refl (λ j. refl) refl
 
-pub begin-same : (w : World) → Same w (begin-sleep-scan w).after
-unfolding begin-sleep-scan
-begin-same w = same_by w (begin-sleep-scan w).after (λ s. refl) refl (λ j. refl) refl
+pub begin-same : (w : World) → Same w (begin_sleep_scan w).after
+unfolding begin_sleep_scan
+begin-same w = same_by w (begin_sleep_scan w).after (λ s. refl) refl (λ j. refl) refl
 
-pub observe-same : (i : ℕ) (e : Bool) (w : World) → Same w (observe-body-for-sleep i e w).after
-unfolding observe-body-for-sleep
+pub observe-same : (i : ℕ) (e : Bool) (w : World) → Same w (observe_body_for_sleep i e w).after
+unfolding observe_body_for_sleep
 observe-same i e w =
     ways (λ (s : Step). Same w s.after) (live w i)
     (λ q.
     ways (λ (s : Step). Same w s.after) w.scanning
-    (λ q. same_by w (scan-set w w.sleep-scan-stamp true (observed i e w.sleep-scan-touched)) (λ s. refl) refl (λ j. refl) refl)
+    (λ q. same_by w (scan_set w w.sleep_scan_stamp true (observed i e w.sleep_scan_touched)) (λ s. refl) refl (λ j. refl) refl)
     (λ q. same_refl w))
     (λ q. same_refl w)
 
 pub finish-same : (room : ℕ) (w : World) → Same w (finished room w).after
-unfolding finished finish-sleep-scan
+unfolding finished finish_sleep_scan
 finish-same room w =
     ways (λ (s : Listing). Same w s.after) (not w.scanning) (λ q. same_refl w)
     (λ q.
-    ways (λ (s : Listing). Same w s.after) (ltb room (length (sleepables w w.sleep-scan-touched))) (λ q. same_refl w)
-    (λ q. same_by w (scan-set w w.sleep-scan-stamp false []) (λ s. refl) refl (λ j. refl) refl))
+    ways (λ (s : Listing). Same w s.after) (ltb room (length (sleepables w w.sleep_scan_touched))) (λ q. same_refl w)
+    (λ q. same_by w (scan_set w w.sleep_scan_stamp false []) (λ s. refl) refl (λ j. refl) refl))
 
-sleep-set : (w : World) (i : ℕ) (z : Bool) → Same w (island-set w i (sleeping-set (islandAt w i) z))
-unfolding island-set
+sleep-set : (w : World) (i : ℕ) (z : Bool) → Same w (island_set w i (sleeping_set (island_at w i) z))
+unfolding island_set
 sleep-set w i z =
-    same_by w (island-set w i (sleeping-set (islandAt w i) z)) (λ s. refl) (length-set w.islands i _) (set-part seen w.islands i _ noIsland refl) refl
+    same_by w (island_set w i (sleeping_set (island_at w i) z)) (λ s. refl) (length-set w.islands i _) (set-part seen w.islands i _ absent_island refl) refl
 
-pub sleep-same : (i : ℕ) (w : World) → Same w (mark-island-sleeping i w).after
-unfolding mark-island-sleeping clear-pending-split-of
+pub sleep-same : (i : ℕ) (w : World) → Same w (mark_island_sleeping i w).after
+unfolding mark_island_sleeping clear_pending_split_of
 sleep-same i w =
     ways (λ (s : Step). Same w s.after) (live w i)
     (λ q.
     let S = sleep-set w i true in
-    let P = pending-same (clear-pending-split-of i (island-set w i (sleeping-set (islandAt w i) true))).split-island (island-set w i (sleeping-set (islandAt w i) true)) in
+    let P = pending-same (clear_pending_split_of i (island_set w i (sleeping_set (island_at w i) true))).split_island (island_set w i (sleeping_set (island_at w i) true)) in
     record {
       home = λ h. P.home h ∙ S.home h;
       to = λ j l s. P.to j l (S.to j l s);
@@ -210,6 +210,6 @@ sleep-same i w =
     })
     (λ q. same_refl w)
 
-pub wake-same : (i : ℕ) (w : World) → Same w (wake-island i w).after
-unfolding wake-island
+pub wake-same : (i : ℕ) (w : World) → Same w (wake_island i w).after
+unfolding wake_island
 wake-same i w = ways (λ (s : Step). Same w s.after) (live w i) (λ q. sleep-set w i false) (λ q. same_refl w)

@@ -1,4 +1,4 @@
--- Two islands become one: what a link does before it is recorded.
+-- Two islands become one: what a link does before it is RecordedAfter.
 use mathlib.Core.Path.{◌≡◌, refl, sym, ◌∙◌, ap, subst}
 use mathlib.Core.Logic.{◌⊎◌, inl, inr, ◌≢◌, ⊎_elim}
 use Prim.Native.Nat.{ℕ, ◌+◌, ◌<◌}
@@ -10,11 +10,11 @@ use borrow.Author.Tests.{eq-eqb, ne_eqb}
 use Rattle.def_kinds.specs.Choice.{pick}
 use Rattle.list_in_table.proofs.Laws.{either}
 use Rattle.def_state.specs.Plain.{top}
-use Rattle.def_state.specs.World.{Handle, Island, noIsland, World, islandAt, named, body-island}
-use Rattle.def_state.specs.Fields.{island-set}
-use Rattle.def_state.specs.Membership.{clear-pending-split-of}
-use Rattle.def_state.specs.Links.{survivor, addCounts, absorbed, absorb, merge-islands, target, merged}
-use Rattle.theorem_split.specs.Graph.{In, Bond, bondsOf, Stands}
+use Rattle.def_state.specs.World.{Handle, Island, absent_island, World, island_at, named, body_island}
+use Rattle.def_state.specs.Fields.{island_set}
+use Rattle.def_state.specs.Membership.{clear_pending_split_of}
+use Rattle.def_state.specs.Links.{survivor, add_counts, absorbed, absorb, merge_islands, target, merged}
+use Rattle.theorem_split.specs.Graph.{In, Bond, bonds_of, Stands}
 use Rattle.theorem_split.specs.Fine.{Apart}
 use Rattle.theorem_split.proofs.Member.{none_in, in_left, in_right, in-cases}
 use Rattle.theorem_split.proofs.Homes.{bool, in_use, member, at_home, named_table}
@@ -25,29 +25,29 @@ use Rattle.theorem_history.proofs.Change.{count}
 pub record Fused (h1 h2 : Handle) (into : ℕ) (w u : World) : Type 0 where
   pub in_use : into < length u.islands
   pub new : ℕ → ℕ
-  pub new-top : new top ≡ top
-  pub new-some : (j : ℕ) → j ≢ top → new j ≢ top
-  pub home : (k : Handle) → body-island u k ≡ new (body-island w k)
-  pub first : body-island w h1 ≢ top → new (body-island w h1) ≡ into
-  pub second : body-island w h2 ≢ top → new (body-island w h2) ≡ into
+  pub new_top : new top ≡ top
+  pub new_some : (j : ℕ) → j ≢ top → new j ≢ top
+  pub home : (k : Handle) → body_island u k ≡ new (body_island w k)
+  pub first : body_island w h1 ≢ top → new (body_island w h1) ≡ into
+  pub second : body_island w h2 ≢ top → new (body_island w h2) ≡ into
   pub to : (j : ℕ) (k : Bond) → Stands w j k → Stands u (new j) k
   pub from : (j : ℕ) (k : Bond) → Stands u j k → (i : ℕ) × (new i ≡ j) × Stands w i k
   pub counts : (j : ℕ) → j ≢ top → count u (new j) ≡ 0 → count w j ≡ 0
   pub glue : (i j : ℕ) → i ≢ top → j ≢ top → new i ≡ new j
-      → (i ≡ j) ⊎ (((i ≡ body-island w h1) × (j ≡ body-island w h2)) ⊎ ((i ≡ body-island w h2) × (j ≡ body-island w h1)))
-  pub journal : u.removal-journal ≡ w.removal-journal
+      → (i ≡ j) ⊎ (((i ≡ body_island w h1) × (j ≡ body_island w h2)) ⊎ ((i ≡ body_island w h2) × (j ≡ body_island w h1)))
+  pub journal : u.removal_journal ≡ w.removal_journal
   pub apart : Apart u
 
 -- no island changes
-stay : (h1 h2 : Handle) (w : World) → Apart w → (into : ℕ) → into < length w.islands → (body-island w h1 ≢ top → body-island w h1 ≡ into)
-    → (body-island w h2 ≢ top → body-island w h2 ≡ into)
+stay : (h1 h2 : Handle) (w : World) → Apart w → (into : ℕ) → into < length w.islands → (body_island w h1 ≢ top → body_island w h1 ≡ into)
+    → (body_island w h2 ≢ top → body_island w h2 ≡ into)
     → Fused h1 h2 into w w
 stay h1 h2 w A into l f s =
     record {
       in_use = l;
       new = λ j. j;
-      new-top = refl;
-      new-some = λ j d. d;
+      new_top = refl;
+      new_some = λ j d. d;
       home = λ k. refl;
       first = f;
       second = s;
@@ -59,8 +59,8 @@ stay h1 h2 w A into l f s =
       apart = A;
     }
 
-counts_zero : (x y : ℕ) → addCounts x y ≡ 0 → (x ≡ 0) × (y ≡ 0)
-unfolding addCounts
+counts_zero : (x y : ℕ) → add_counts x y ≡ 0 → (x ≡ 0) × (y ≡ 0)
+unfolding add_counts
 counts_zero x y e = bool (ltb top (x + y)) (λ q. absurd (let z : top ≡ 0 = rw q at e in omega arith)) (λ q. (let z : x + y ≡ 0 = rw q at e in (omega arith, omega arith)))
 
 -- small becomes part of big
@@ -69,30 +69,30 @@ module _ (w : World) (A : Apart w) (big small : ℕ) (bl : big < length w.island
   u = absorb big small w
 
   abbrev P : Island
-  P = absorbed (islandAt w big) (islandAt w small)
+  P = absorbed (island_at w big) (island_at w small)
 
   long : length (absorb big small w).islands ≡ length w.islands
-  unfolding absorb island-set clear-pending-split-of
-  long = length-set (set w.islands big P) small noIsland ∙ length-set w.islands big P
+  unfolding absorb island_set clear_pending_split_of
+  long = length-set (set w.islands big P) small absent_island ∙ length-set w.islands big P
 
-  at-big : islandAt (absorb big small w) big ≡ absorbed (islandAt w big) (islandAt w small)
-  unfolding absorb island-set clear-pending-split-of
-  at-big = get_or-set_other (set w.islands big P) small big noIsland noIsland d ∙ get_or-set_same w.islands big P noIsland bl
+  at-big : island_at (absorb big small w) big ≡ absorbed (island_at w big) (island_at w small)
+  unfolding absorb island_set clear_pending_split_of
+  at-big = get_or-set_other (set w.islands big P) small big absent_island absent_island d ∙ get_or-set_same w.islands big P absent_island bl
 
-  at_small : islandAt (absorb big small w) small ≡ noIsland
-  unfolding absorb island-set clear-pending-split-of
-  at_small = get_or-set_same (set w.islands big P) small noIsland noIsland (rw (length-set w.islands big P) sl)
+  at_small : island_at (absorb big small w) small ≡ absent_island
+  unfolding absorb island_set clear_pending_split_of
+  at_small = get_or-set_same (set w.islands big P) small absent_island absent_island (rw (length-set w.islands big P) sl)
 
-  at_other : (j : ℕ) → j ≢ big → j ≢ small → islandAt (absorb big small w) j ≡ islandAt w j
-  unfolding absorb island-set clear-pending-split-of
-  at_other j p q = get_or-set_other (set w.islands big P) small j noIsland noIsland q ∙ get_or-set_other w.islands big j P noIsland p
+  at_other : (j : ℕ) → j ≢ big → j ≢ small → island_at (absorb big small w) j ≡ island_at w j
+  unfolding absorb island_set clear_pending_split_of
+  at_other j p q = get_or-set_other (set w.islands big P) small j absent_island absent_island q ∙ get_or-set_other w.islands big j P absent_island p
 
   table : (absorb big small w).bodies ≡ w.bodies
-  unfolding absorb island-set clear-pending-split-of
+  unfolding absorb island_set clear_pending_split_of
   table = refl
 
-  journal : (absorb big small w).removal-journal ≡ w.removal-journal
-  unfolding absorb island-set clear-pending-split-of
+  journal : (absorb big small w).removal_journal ≡ w.removal_journal
+  unfolding absorb island_set clear_pending_split_of
   journal = refl
 
   abbrev new : ℕ → ℕ
@@ -108,28 +108,28 @@ module _ (w : World) (A : Apart w) (big small : ℕ) (bl : big < length w.island
   top_small e = let a = A.small in omega arith
 
   -- a list of bodies, out and in
-  origin : (i s : ℕ) → In s (islandAt u i).bodies → (j : ℕ) × (new j ≡ i) × In s (islandAt w j).bodies
+  origin : (i s : ℕ) → In s (island_at u i).bodies → (j : ℕ) × (new j ≡ i) × In s (island_at w j).bodies
   origin i s m =
-      either i small (λ e. absurd (none_in (subst (λ (a : Island). In s a.bodies) at_small (subst (λ (k : ℕ). In s (islandAt u k).bodies) e m))))
+      either i small (λ e. absurd (none_in (subst (λ (a : Island). In s a.bodies) at_small (subst (λ (k : ℕ). In s (island_at u k).bodies) e m))))
       (λ o.
       either i big
       (λ e.
       ⊎_elim (λ q. (big, new-other big d ∙ sym e, q)) (λ q. (small, new-small small refl ∙ sym e, q))
-      (in-cases (islandAt w big).bodies (subst (λ (a : Island). In s a.bodies) at-big (subst (λ (k : ℕ). In s (islandAt u k).bodies) e m))))
+      (in-cases (island_at w big).bodies (subst (λ (a : Island). In s a.bodies) at-big (subst (λ (k : ℕ). In s (island_at u k).bodies) e m))))
       (λ e. (i, new-other i o, subst (λ (a : Island). In s a.bodies) (at_other i e o) m)))
 
-  lands : (j s : ℕ) → In s (islandAt w j).bodies → In s (islandAt u (new j)).bodies
+  lands : (j s : ℕ) → In s (island_at w j).bodies → In s (island_at u (new j)).bodies
   lands j s m =
       either j small
       (λ e.
-      subst (λ (k : ℕ). In s (islandAt u k).bodies) (sym (new-small j e))
-      (subst (λ (a : Island). In s a.bodies) (sym at-big) (in_right (islandAt w big).bodies (subst (λ (k : ℕ). In s (islandAt w k).bodies) e m))))
+      subst (λ (k : ℕ). In s (island_at u k).bodies) (sym (new-small j e))
+      (subst (λ (a : Island). In s a.bodies) (sym at-big) (in_right (island_at w big).bodies (subst (λ (k : ℕ). In s (island_at w k).bodies) e m))))
       (λ o.
-      subst (λ (k : ℕ). In s (islandAt u k).bodies) (sym (new-other j o))
+      subst (λ (k : ℕ). In s (island_at u k).bodies) (sym (new-other j o))
       (either j big
       (λ e.
-      subst (λ (k : ℕ). In s (islandAt u k).bodies) (sym e)
-      (subst (λ (a : Island). In s a.bodies) (sym at-big) (in_left (islandAt w small).bodies (subst (λ (k : ℕ). In s (islandAt w k).bodies) e m))))
+      subst (λ (k : ℕ). In s (island_at u k).bodies) (sym e)
+      (subst (λ (a : Island). In s a.bodies) (sym at-big) (in_left (island_at w small).bodies (subst (λ (k : ℕ). In s (island_at w k).bodies) e m))))
       (λ e. subst (λ (a : Island). In s a.bodies) (sym (at_other j e o)) m)))
 
   apart : Apart (absorb big small w)
@@ -146,43 +146,43 @@ module _ (w : World) (A : Apart w) (big small : ℕ) (bl : big < length w.island
   name : (k : Handle) → named u k ≡ named w k
   name = named_table w u table
 
-  new-top : new top ≡ top
-  new-top = new-other top top_small
+  new_top : new top ≡ top
+  new_top = new-other top top_small
 
-  new-some : (j : ℕ) → j ≢ top → new j ≢ top
-  new-some j o e =
+  new_some : (j : ℕ) → j ≢ top → new j ≢ top
+  new_some j o e =
       either j small (λ q. (let z : big ≡ top = sym (new-small j q) ∙ e in let a = A.small in omega arith)) (λ q. o (sym (new-other j q) ∙ e))
 
-  home : (k : Handle) → body-island u k ≡ new (body-island w k)
+  home : (k : Handle) → body_island u k ≡ new (body_island w k)
   home k =
-      either (body-island w k) top
+      either (body_island w k) top
       (λ e.
-      (either (body-island u k) top (λ q. q)
+      (either (body_island u k) top (λ q. q)
       (λ q.
       absurd
-      (let m = member u (body-island u k) k refl q in
-      let x = origin (body-island u k) k.slot m.listed in
-      let z : x.0 ≡ top = sym (at_home w A x.0 k (record { named-is = sym (name k) ∙ m.named-is; listed = x.2 })) ∙ e in
-      q (sym x.1 ∙ ap new z ∙ new-top))))
-      ∙ sym (ap new e ∙ new-top))
+      (let m = member u (body_island u k) k refl q in
+      let x = origin (body_island u k) k.slot m.listed in
+      let z : x.0 ≡ top = sym (at_home w A x.0 k (record { named_is = sym (name k) ∙ m.named_is; listed = x.2 })) ∙ e in
+      q (sym x.1 ∙ ap new z ∙ new_top))))
+      ∙ sym (ap new e ∙ new_top))
       (λ o.
-      let m = member w (body-island w k) k refl o in
-      at_home u apart (new (body-island w k)) k (record { named-is = name k ∙ m.named-is; listed = lands (body-island w k) k.slot m.listed }))
+      let m = member w (body_island w k) k refl o in
+      at_home u apart (new (body_island w k)) k (record { named_is = name k ∙ m.named_is; listed = lands (body_island w k) k.slot m.listed }))
 
   -- links, out and in
   bond-big : (l : Bond) → Stands w big l → Stands u big l
   bond-big l s =
-      subst (λ (a : Island). In l (bondsOf a)) (sym at-big)
-      (bonds-all (islandAt w big) (λ (b : Bond). In b (bondsOf P)) (λ c m. contact-bond P c (in_left (islandAt w small).contact-links m))
-      (λ c m. joint-bond P c (in_left (islandAt w small).joint-links m))
+      subst (λ (a : Island). In l (bonds_of a)) (sym at-big)
+      (bonds-all (island_at w big) (λ (b : Bond). In b (bonds_of P)) (λ c m. contact-bond P c (in_left (island_at w small).contact_links m))
+      (λ c m. joint-bond P c (in_left (island_at w small).joint_links m))
       l
       s)
 
   bond-small : (l : Bond) → Stands w small l → Stands u big l
   bond-small l s =
-      subst (λ (a : Island). In l (bondsOf a)) (sym at-big)
-      (bonds-all (islandAt w small) (λ (b : Bond). In b (bondsOf P)) (λ c m. contact-bond P c (in_right (islandAt w big).contact-links m))
-      (λ c m. joint-bond P c (in_right (islandAt w big).joint-links m))
+      subst (λ (a : Island). In l (bonds_of a)) (sym at-big)
+      (bonds-all (island_at w small) (λ (b : Bond). In b (bonds_of P)) (λ c m. contact-bond P c (in_right (island_at w big).contact_links m))
+      (λ c m. joint-bond P c (in_right (island_at w big).joint_links m))
       l
       s)
 
@@ -192,34 +192,34 @@ module _ (w : World) (A : Apart w) (big small : ℕ) (bl : big < length w.island
       (λ o.
       subst (λ (k : ℕ). Stands u k l) (sym (new-other j o))
       (either j big (λ e. subst (λ (k : ℕ). Stands u k l) (sym e) (bond-big l (subst (λ (k : ℕ). Stands w k l) e s)))
-      (λ e. subst (λ (a : Island). In l (bondsOf a)) (sym (at_other j e o)) s)))
+      (λ e. subst (λ (a : Island). In l (bonds_of a)) (sym (at_other j e o)) s)))
 
   bond-from : (j : ℕ) (l : Bond) → Stands u j l → (i : ℕ) × (new i ≡ j) × Stands w i l
   bond-from j l s =
-      either j small (λ e. absurd (none_in (subst (λ (a : Island). In l (bondsOf a)) at_small (subst (λ (k : ℕ). Stands u k l) e s))))
+      either j small (λ e. absurd (none_in (subst (λ (a : Island). In l (bonds_of a)) at_small (subst (λ (k : ℕ). Stands u k l) e s))))
       (λ o.
       either j big
       (λ e.
       ⊎_elim (λ q. (big, new-other big d ∙ sym e, q)) (λ q. (small, new-small small refl ∙ sym e, q))
       (bonds-all P (λ (b : Bond). Stands w big b ⊎ Stands w small b)
       (λ c m.
-      ⊎_elim (λ q. inl (contact-bond (islandAt w big) c q)) (λ q. inr (contact-bond (islandAt w small) c q)) (in-cases (islandAt w big).contact-links m))
+      ⊎_elim (λ q. inl (contact-bond (island_at w big) c q)) (λ q. inr (contact-bond (island_at w small) c q)) (in-cases (island_at w big).contact_links m))
       (λ c m.
-      ⊎_elim (λ q. inl (joint-bond (islandAt w big) c q)) (λ q. inr (joint-bond (islandAt w small) c q)) (in-cases (islandAt w big).joint-links m))
+      ⊎_elim (λ q. inl (joint-bond (island_at w big) c q)) (λ q. inr (joint-bond (island_at w small) c q)) (in-cases (island_at w big).joint_links m))
       l
-      (subst (λ (a : Island). In l (bondsOf a)) at-big (subst (λ (k : ℕ). Stands u k l) e s))))
-      (λ e. (j, new-other j o, subst (λ (a : Island). In l (bondsOf a)) (at_other j e o) s)))
+      (subst (λ (a : Island). In l (bonds_of a)) at-big (subst (λ (k : ℕ). Stands u k l) e s))))
+      (λ e. (j, new-other j o, subst (λ (a : Island). In l (bonds_of a)) (at_other j e o) s)))
 
   counted : (j : ℕ) → count u (new j) ≡ 0 → count w j ≡ 0
   counted j c =
       let both : count u big ≡ 0 → (count w big ≡ 0) × (count w small ≡ 0) =
       λ q.
-      counts_zero (islandAt w big).constraint-remove-count (islandAt w small).constraint-remove-count (sym (ap (λ (a : Island). a.constraint-remove-count) at-big) ∙ q) in
+      counts_zero (island_at w big).constraint_remove_count (island_at w small).constraint_remove_count (sym (ap (λ (a : Island). a.constraint_remove_count) at-big) ∙ q) in
       either j small (λ e. ap (count w) e ∙ (both (ap (count u) (sym (new-small j e)) ∙ c)).1)
       (λ o.
       let c' : count u j ≡ 0 = ap (count u) (sym (new-other j o)) ∙ c in
       either j big (λ e. ap (count w) e ∙ (both (ap (count u) (sym e) ∙ c')).0)
-      (λ e. sym (ap (λ (a : Island). a.constraint-remove-count) (at_other j e o)) ∙ c'))
+      (λ e. sym (ap (λ (a : Island). a.constraint_remove_count) (at_other j e o)) ∙ c'))
 
   glued : (i j : ℕ) → new i ≡ new j → (i ≡ j) ⊎ (((i ≡ big) × (j ≡ small)) ⊎ ((i ≡ small) × (j ≡ big)))
   glued i j e =
@@ -229,13 +229,13 @@ module _ (w : World) (A : Apart w) (big small : ℕ) (bl : big < length w.island
       (λ p.
       either j small (λ q. inr (inl (sym (new-other i p) ∙ e ∙ new-small j q, q))) (λ q. inl (sym (new-other i p) ∙ e ∙ new-other j q)))
 
-  fuse : (h1 h2 : Handle) → (((body-island w h1 ≡ big) × (body-island w h2 ≡ small)) ⊎ ((body-island w h1 ≡ small) × (body-island w h2 ≡ big))) → Fused h1 h2 big w (absorb big small w)
+  fuse : (h1 h2 : Handle) → (((body_island w h1 ≡ big) × (body_island w h2 ≡ small)) ⊎ ((body_island w h1 ≡ small) × (body_island w h2 ≡ big))) → Fused h1 h2 big w (absorb big small w)
   fuse h1 h2 o =
       record {
         in_use = rw long bl;
         new = new;
-        new-top = new-top;
-        new-some = new-some;
+        new_top = new_top;
+        new_some = new_some;
         home = home;
         first = λ q. ⊎_elim (λ e. ap new e.0 ∙ new-other big d) (λ e. ap new e.0 ∙ new-small small refl) o;
         second = λ q. ⊎_elim (λ e. ap new e.1 ∙ new-small small refl) (λ e. ap new e.1 ∙ new-other big d) o;
@@ -260,15 +260,15 @@ module _ (w : World) (A : Apart w) (big small : ℕ) (bl : big < length w.island
 
 -- ---- the state with the islands of both ends merged, and the island that the link goes to
 
-used : (w : World) (h : Handle) (i : ℕ) → body-island w h ≡ i → i ≢ top → i < length w.islands
+used : (w : World) (h : Handle) (i : ℕ) → body_island w h ≡ i → i ≢ top → i < length w.islands
 used w h i e d = Rattle.theorem_split.proofs.Homes.in_use w i (member w i h e d).listed
 
 into-is : (w : World) (a b : ℕ) → (survivor w a b ≡ a) ⊎ (survivor w a b ≡ b)
 unfolding survivor
-into-is w a b = bool (leb (length (islandAt w b).bodies) (length (islandAt w a).bodies)) (λ e. inl (rw e)) (λ e. inr (rw e))
+into-is w a b = bool (leb (length (island_at w b).bodies) (length (island_at w a).bodies)) (λ e. inl (rw e)) (λ e. inr (rw e))
 
 pub merged-fused : (w : World) → Apart w → (h1 h2 : Handle) → target w h1 h2 ≢ top → Fused h1 h2 (target w h1 h2) w (merged h1 h2 w)
-unfolding target merged merge-islands
+unfolding target merged merge_islands
 merged-fused w A h1 h2 t =
     either a top
     (λ p.
@@ -298,7 +298,7 @@ merged-fused w A h1 h2 t =
     (into-is w a b))))))
   where
     a : ℕ
-    a = body-island w h1
+    a = body_island w h1
 
     b : ℕ
-    b = body-island w h2
+    b = body_island w h2

@@ -7,9 +7,9 @@ use Prim.Native.Nat.{ℕ}
 use Rattle.def_kinds.specs.Choice.{pick}
 use Rattle.list_in_table.proofs.Laws.{either}
 use Rattle.def_state.specs.Plain.{top}
-use Rattle.def_state.specs.World.{Handle, Island, World, islandAt, body-island, live}
-use Rattle.def_state.specs.Fields.{split-set}
-use Rattle.def_state.specs.Split.{split, split-island-now, runSplit, run-pending-split}
+use Rattle.def_state.specs.World.{Handle, Island, World, island_at, body_island, live}
+use Rattle.def_state.specs.Fields.{split_set}
+use Rattle.def_state.specs.Split.{split, split_island_now, run_split, run_pending_split}
 use Rattle.theorem_split.specs.Graph.{Path, Stands, Own, Whole}
 use Rattle.theorem_split.specs.Fine.{Apart, Fine}
 use Rattle.theorem_split.specs.Parted.{Parted}
@@ -19,7 +19,7 @@ use Rattle.theorem_split.proofs.Paths.{along}
 use Rattle.theorem_split.proofs.Split.{some-live, it as live-number}
 use Rattle.theorem_split.proofs.Several.{split_parts}
 use Rattle.theorem_split.proofs.Exact.{came_from, whole_part, members-of, fine-pending}
-use Rattle.theorem_history.specs.Ties.{nothing, splitting, splittingPending, isDone}
+use Rattle.theorem_history.specs.Ties.{nothing, splitting, splitting_pending, is_done}
 use Rattle.theorem_history.proofs.Change.{count, Same, Halved, Change, same, halved}
 use Rattle.theorem_history.proofs.Change.{LinkedIn}
 use Rattle.theorem_history.proofs.Keep.{Closed}
@@ -41,7 +41,7 @@ halve i w v A it P =
       apart = λ a b d e t q. d (came_from i w v A it P b a q e);
       counts =
           λ h d t.
-          ap (λ (a : Island). a.constraint-remove-count) (P.other (body-island w h) d (some-live w (body-island w h) (member w (body-island w h) h refl t).listed));
+          ap (λ (a : Island). a.constraint_remove_count) (P.other (body_island w h) d (some-live w (body_island w h) (member w (body_island w h) h refl t).listed));
       journal = P.steady.journal;
     }
 
@@ -91,64 +91,64 @@ same-halved i w u v S H =
       counts =
           λ h d t.
           let c = H.counts h (off h d) (λ z. t (sym (S.home h) ∙ z)) in
-          subst (λ (k : ℕ). count v k ≡ count u k) (S.home h) c ∙ S.counts (body-island w h);
+          subst (λ (k : ℕ). count v k ≡ count u k) (S.home h) c ∙ S.counts (body_island w h);
       journal = H.journal ∙ S.journal;
     }
   where
-    off : (h : Handle) → body-island w h ≢ i → body-island u h ≢ i
+    off : (h : Handle) → body_island w h ≢ i → body_island u h ≢ i
     off h d q = d (sym (S.home h) ∙ q)
 
 split-halved : (w : World) → Fine w → (i : ℕ) → live w i ≡ true → Apart (split i w) → Halved i w (split i w)
 split-halved w F i l B = halve i w (split i w) F.apart (live-number w F i l) (split_parts w F i l B.small)
 
-pub split-change : (w : World) → Fine w → (i : ℕ) → Apart (split-island-now i w).after → Change (pick (isDone (split-island-now i w)) (splitting i) nothing) w (split-island-now i w).after
-unfolding split-island-now
+pub split-change : (w : World) → Fine w → (i : ℕ) → Apart (split_island_now i w).after → Change (pick (is_done (split_island_now i w)) (splitting i) nothing) w (split_island_now i w).after
+unfolding split_island_now
 split-change w F i B =
     bool (live w i) (λ l. (let B' : Apart (split i w) = rw l at B in rw l (halved i (split-halved w F i l B')))) (λ l. rw l (same (same_refl w)))
 
-pub run-change : (w : World) → Fine w → Apart (run-pending-split w).after → Change (pick (isDone (run-pending-split w)) (splittingPending w.split-island) nothing) w (run-pending-split w).after
-unfolding run-pending-split
-run-change w F B = go w.split-island B
+pub run-change : (w : World) → Fine w → Apart (run_pending_split w).after → Change (pick (is_done (run_pending_split w)) (splitting_pending w.split_island) nothing) w (run_pending_split w).after
+unfolding run_pending_split
+run-change w F B = go w.split_island B
   where
     first-true : (a b : Bool) → a && b ≡ true → a ≡ true
     first-true true b e = refl
     first-true false b e = absurd (false≢true e)
 
     u : World
-    u = split-set w none
+    u = split_set w none
 
-    go : (o : Option ℕ) → Apart (runSplit o u).after → Change (pick (isDone (runSplit o u)) (splittingPending o) nothing) w (runSplit o u).after
+    go : (o : Option ℕ) → Apart (run_split o u).after → Change (pick (is_done (run_split o u)) (splitting_pending o) nothing) w (run_split o u).after
     go none B = same (pending-same none w)
     go (some i) B =
-        bool (live u i && not (islandAt u i).sleeping)
+        bool (live u i && not (island_at u i).sleeping)
         (λ l.
         let B' : Apart (split i u) = rw l at B in
         rw l (halved i (same-halved i w u (split i u) (pending-same none w) (split-halved u (fine-pending w none F) i (first-true (live u i) _ l) B'))))
         (λ l. rw l (same (pending-same none w)))
 
 -- nobody becomes a member by a split, and nobody stops being one
-pub split-members : (w : World) → Fine w → (i : ℕ) → Apart (split-island-now i w).after → SameMembers w (split-island-now i w).after
-unfolding split-island-now
+pub split-members : (w : World) → Fine w → (i : ℕ) → Apart (split_island_now i w).after → SameMembers w (split_island_now i w).after
+unfolding split_island_now
 split-members w F i B =
     bool (live w i) (λ l. (let B' : Apart (split i w) = rw l at B in rw l (split-halved w F i l B').members))
-    (λ l. rw l (λ (h : Handle). ((λ (d : body-island w h ≢ top). d), (λ (d : body-island w h ≢ top). d))))
+    (λ l. rw l (λ (h : Handle). ((λ (d : body_island w h ≢ top). d), (λ (d : body_island w h ≢ top). d))))
 
 -- in a closed state a split changes nothing of the links between members
 halved-links : (i : ℕ) (w v : World) → Halved i w v → Closed w → (a b : Handle) → LinkedIn w a b ↔ LinkedIn v a b
 halved-links i w v H C a b = (to, from)
   where
     -- the first end is a or b
-    first-in : (L : LinkedIn w a b) → body-island w L.link.body1 ≢ top
-    first-in L = ⊎_elim (λ q z. L.first (ap (body-island w) (sym q.0) ∙ z)) (λ q z. L.second (ap (body-island w) (sym q.0) ∙ z)) L.joins
+    first-in : (L : LinkedIn w a b) → body_island w L.link.body1 ≢ top
+    first-in L = ⊎_elim (λ q z. L.first (ap (body_island w) (sym q.0) ∙ z)) (λ q z. L.second (ap (body_island w) (sym q.0) ∙ z)) L.joins
 
     to : LinkedIn w a b → LinkedIn v a b
     to L =
         either L.island i
         (λ e.
         let s : Stands w i L.link = subst (λ (k : ℕ). Stands w k L.link) e L.stands in
-        let f : body-island w L.link.body1 ≡ i = (C L.island L.link L.stands).0 (first-in L) ∙ e in
+        let f : body_island w L.link.body1 ≡ i = (C L.island L.link L.stands).0 (first-in L) ∙ e in
         record {
-          island = body-island v L.link.body1;
+          island = body_island v L.link.body1;
           link = L.link;
           stands = H.first L.link s f;
           joins = L.joins;
@@ -178,8 +178,8 @@ halved-links i w v H C a b = (to, from)
           second = (H.members b).0 L.second;
         }
 
-pub split-links : (w : World) → Fine w → (i : ℕ) → Apart (split-island-now i w).after → Closed w → (a b : Handle) → LinkedIn w a b ↔ LinkedIn (split-island-now i w).after a b
-unfolding split-island-now
+pub split-links : (w : World) → Fine w → (i : ℕ) → Apart (split_island_now i w).after → Closed w → (a b : Handle) → LinkedIn w a b ↔ LinkedIn (split_island_now i w).after a b
+unfolding split_island_now
 split-links w F i B C a b =
     bool (live w i) (λ l. (let B' : Apart (split i w) = rw l at B in rw l (halved-links i w (split i w) (split-halved w F i l B') C a b)))
     (λ l. rw l ((λ (x : LinkedIn w a b). x), (λ (x : LinkedIn w a b). x)))

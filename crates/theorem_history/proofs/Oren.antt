@@ -10,18 +10,18 @@ use borrow.Author.Tests.{eqb-true, eqb-false}
 use Rattle.def_kinds.specs.Choice.{pick}
 use Rattle.def_kinds.specs.declared.Sizes.{Sizes}
 use Rattle.def_kinds.specs.declared.Answer.{Answer}
-use Rattle.def_state.specs.World.{Handle, Observed, World, body-island}
-use Rattle.def_state.specs.Scan.{observed, sleepable, sleepables, Listing, finish-sleep-scan}
+use Rattle.def_state.specs.World.{Handle, Observed, World, body_island}
+use Rattle.def_state.specs.Scan.{observed, sleepable, sleepables, Listing, finish_sleep_scan}
 use Rattle.def_state.specs.Calls.{Call, Observe, perform}
-use Rattle.table_meaning.specs.Decode.{worldOf}
+use Rattle.table_meaning.specs.Decode.{world_of}
 use Rattle.table_meaning.specs.Does.{Called}
 use Rattle.theorem_split.specs.Graph.{In, here, there}
 use Rattle.theorem_split.proofs.Member.{none_in}
 use Rattle.theorem_split.proofs.Homes.{bool}
 use Rattle.theorem_split.proofs.Paths.{same-along}
 use Rattle.theorem_history.specs.History.{History, reset, call}
-use Rattle.theorem_history.specs.Ties.{isDone}
-use Rattle.theorem_history.specs.Promises.{Sight, nothing, over, unfit, sight, sees, Unfit, SeenUnfit, Tied, NoUnfit, NoneTiedToUnfit}
+use Rattle.theorem_history.specs.Ties.{is_done}
+use Rattle.theorem_history.specs.Promises.{Sight, nothing, over, unfit, sight, Sees, Unfit, SeenUnfit, Tied, NoUnfit, NoneTiedToUnfit}
 use Rattle.theorem_history.proofs.Basic.{ways, observe-same}
 use Rattle.theorem_history.proofs.Sentences.{reset-empty, after, share}
 use Rattle.theorem_history.proofs.Turns.{Noted, kept, fit, seen, gone, turned}
@@ -102,13 +102,13 @@ marked-unlisted w i [] k m = k
 marked-unlisted w i (o ∷ os) (inl k) m = lacks-unlisted w i os k.2 (rw (unfit-sleepable w o k.1) at m)
 marked-unlisted w i (o ∷ os) (inr k) m = bool (sleepable w o) (λ q. in-cons k.0 (marked-unlisted w i os k.1) (rw q at m)) (λ q. marked-unlisted w i os k.1 (rw q at m))
 
-finish-unlisted : (w : World) (i room : ℕ) → Marked i w.sleep-scan-touched → In i (finish-sleep-scan room w).listed → ⊥
-unfolding finish-sleep-scan
+finish-unlisted : (w : World) (i room : ℕ) → Marked i w.sleep_scan_touched → In i (finish_sleep_scan room w).listed → ⊥
+unfolding finish_sleep_scan
 finish-unlisted w i room k =
     ways (λ (s : Listing). In i s.listed → ⊥) (not w.scanning) (λ q. λ m. none_in m)
     (λ q.
-    ways (λ (s : Listing). In i s.listed → ⊥) (ltb room (length (sleepables w w.sleep-scan-touched))) (λ q. λ m. none_in m)
-    (λ q. λ m. marked-unlisted w i w.sleep-scan-touched k m))
+    ways (λ (s : Listing). In i s.listed → ⊥) (ltb room (length (sleepables w w.sleep_scan_touched))) (λ q. λ m. none_in m)
+    (λ q. λ m. marked-unlisted w i w.sleep_scan_touched k m))
 
 -- ---- over a history
 
@@ -118,7 +118,7 @@ noted-once {s} {os} (fit i e) u = subst (λ (xs : List Observed). Once xs) (sym 
 noted-once {s} {os} (seen i e) u = subst (λ (xs : List Observed). Once xs) (sym e) (once-observed i false os u)
 noted-once {s} {os} (gone e) u = subst (λ (xs : List Observed). Once xs) (sym e) tt
 
-noted-marked : {s : Sight} {os ps : List Observed} (i : ℕ) (S : Type 0) → Noted s os ps → Once os → (S → Marked i os) → sees s (λ (j : ℕ). i ≡ j) S → Marked i ps
+noted-marked : {s : Sight} {os ps : List Observed} (i : ℕ) (S : Type 0) → Noted s os ps → Once os → (S → Marked i os) → Sees s (λ (j : ℕ). i ≡ j) S → Marked i ps
 noted-marked {s} {os} i S (kept e) u f m = subst (λ (xs : List Observed). Marked i xs) (sym e) (f m)
 noted-marked {s} {os} i S (fit j e) u f m = subst (λ (xs : List Observed). Marked i xs) (sym e) (marked-observed i j true os (f m))
 noted-marked {s} {os} i S (seen j e) u f (inl m) = subst (λ (xs : List Observed). Marked i xs) (sym e) (marked-observed i j false os (f m))
@@ -128,63 +128,63 @@ noted-marked {s} {os} i S (gone e) u f m = absurd m
 
 -- one call
 module _ {Z : Sizes} {t t' : List ℕ} (H : History Z t) (c : Call) (r : Answer) (d : Called Z (perform Z c) t r t') where
-  noted_call : Noted (sight Z c (worldOf Z t)) (worldOf Z t).sleep-scan-touched (worldOf Z t').sleep-scan-touched
+  noted_call : Noted (sight Z c (world_of Z t)) (world_of Z t).sleep_scan_touched (world_of Z t').sleep_scan_touched
   noted_call =
-      subst (λ (v : World). Noted (sight Z c (worldOf Z t)) (worldOf Z t).sleep-scan-touched v.sleep-scan-touched) (sym (after H c r d)) (turned Z c (worldOf Z t)).noted
+      subst (λ (v : World). Noted (sight Z c (world_of Z t)) (world_of Z t).sleep_scan_touched v.sleep_scan_touched) (sym (after H c r d)) (turned Z c (world_of Z t)).noted
 
-once-holds : {Z : Sizes} {t : List ℕ} → History Z t → Once (worldOf Z t).sleep-scan-touched
-once-holds {Z} (reset e) = subst (λ (w : World). Once w.sleep-scan-touched) (sym (reset-empty e)) tt
+once-holds : {Z : Sizes} {t : List ℕ} → History Z t → Once (world_of Z t).sleep_scan_touched
+once-holds {Z} (reset e) = subst (λ (w : World). Once w.sleep_scan_touched) (sym (reset-empty e)) tt
 once-holds {Z} (call {t} {t'} H c r d) = noted-once (noted_call H c r d) (once-holds H)
 
-unfit-marked : {Z : Sizes} {t : List ℕ} (H : History Z t) (i : ℕ) → Unfit H i → Marked i (worldOf Z t).sleep-scan-touched
+unfit-marked : {Z : Sizes} {t : List ℕ} (H : History Z t) (i : ℕ) → Unfit H i → Marked i (world_of Z t).sleep_scan_touched
 unfit-marked (reset e) i u = absurd u
 unfit-marked {Z} (call {t} {t'} H c r d) i u = noted-marked i (Unfit H i) (noted_call H c r d) (once-holds H) (unfit-marked H i) u
 
 pub no-unfit : NoUnfit
-no-unfit Z t H i u room m = finish-unlisted (worldOf Z t) i room (unfit-marked H i u) m
+no-unfit Z t H i u room m = finish-unlisted (world_of Z t) i room (unfit-marked H i u) m
 
 -- ---- by bodies
 
-sees-map : (s : Sight) {P Q : ℕ → Type 0} {S T : Type 0} → ((j : ℕ) → P j → Q j) → (S → T) → sees s P S → sees s Q T
+sees-map : (s : Sight) {P Q : ℕ → Type 0} {S T : Type 0} → ((j : ℕ) → P j → Q j) → (S → T) → Sees s P S → Sees s Q T
 sees-map nothing f g x = g x
 sees-map over f g x = x
 sees-map (unfit i) f g (inl x) = inl (g x)
 sees-map (unfit i) f g (inr x) = inr (f i x)
 
 -- the island of a body that was seen unfit was observed unfit
-seen-unfit : {Z : Sizes} {t : List ℕ} (H : History Z t) (h : Handle) → SeenUnfit H h → Unfit H (body-island (worldOf Z t) h)
+seen-unfit : {Z : Sizes} {t : List ℕ} (H : History Z t) (h : Handle) → SeenUnfit H h → Unfit H (body_island (world_of Z t) h)
 seen-unfit (reset e) h u = absurd u
 seen-unfit {Z} (call {t} {t'} H c r d) h u =
-    subst (λ (i : ℕ). Unfit (call H c r d) i) (sym u.1) (sees-map (sight Z c (worldOf Z t)) (λ j q. q) (seen-unfit H h) u.0)
+    subst (λ (i : ℕ). Unfit (call H c r d) i) (sym u.1) (sees-map (sight Z c (world_of Z t)) (λ j q. q) (seen-unfit H h) u.0)
 
-tied-same : {Z : Sizes} {t : List ℕ} (H : History Z t) (a b : Handle) → Tied H a b → body-island (worldOf Z t) a ≡ body-island (worldOf Z t) b
+tied-same : {Z : Sizes} {t : List ℕ} (H : History Z t) (a b : Handle) → Tied H a b → body_island (world_of Z t) a ≡ body_island (world_of Z t) b
 tied-same {Z} {t} H a b (l, k, j) =
     let s = (share Z t H l k).0 in
-    let f = body-island (worldOf Z t) in
+    let f = body_island (world_of Z t) in
     ⊎_elim (λ q. sym (ap f q.0) ∙ s ∙ ap f q.1) (λ q. sym (ap f q.1) ∙ sym s ∙ ap f q.0) j
 
 pub none-tied-to-unfit : NoneTiedToUnfit
 none-tied-to-unfit Z t H a u b p room m =
-    no-unfit Z t H (body-island (worldOf Z t) a) (seen-unfit H a u) room
-    (subst (λ (i : ℕ). In i (finish-sleep-scan room (worldOf Z t)).listed) (sym (same-along (body-island (worldOf Z t)) (tied-same H) p)) m)
+    no-unfit Z t H (body_island (world_of Z t) a) (seen-unfit H a u) room
+    (subst (λ (i : ℕ). In i (finish_sleep_scan room (world_of Z t)).listed) (sym (same-along (body_island (world_of Z t)) (tied-same H) p)) m)
 
 -- ---- where only observations stand between begin and finish, what was seen stays seen
 
 module _ {Z : Sizes} {t t' : List ℕ} (H : History Z t) (h : Handle) (r : Answer) where
-  observe-home : (i : ℕ) (e : Bool) → Called Z (perform Z (Observe i e)) t r t' → body-island (worldOf Z t') h ≡ body-island (worldOf Z t) h
+  observe-home : (i : ℕ) (e : Bool) → Called Z (perform Z (Observe i e)) t r t' → body_island (world_of Z t') h ≡ body_island (world_of Z t) h
   unfolding perform
-  observe-home i e d = ap (λ (v : World). body-island v h) (after H (Observe i e) r d) ∙ (observe-same i e (worldOf Z t)).home h
+  observe-home i e d = ap (λ (v : World). body_island v h) (after H (Observe i e) r d) ∙ (observe-same i e (world_of Z t)).home h
 
   -- the body's island is observed unfit
-  pub seen_first : (i : ℕ) (d : Called Z (perform Z (Observe i false)) t r t') → isDone (perform Z (Observe i false) (worldOf Z t)) ≡ true → body-island (worldOf Z t) h ≡ i
+  pub seen_first : (i : ℕ) (d : Called Z (perform Z (Observe i false)) t r t') → is_done (perform Z (Observe i false) (world_of Z t)) ≡ true → body_island (world_of Z t) h ≡ i
       → SeenUnfit (call H (Observe i false) r d) h
   seen_first i d ok e = (rw ok (inr e), observe-home i false d)
 
   -- and then any island, fit or not, refused or not
   pub seen-still : (i : ℕ) (e : Bool) (d : Called Z (perform Z (Observe i e)) t r t') → SeenUnfit H h → SeenUnfit (call H (Observe i e) r d) h
-  seen-still i e d u = (keeps (isDone (perform Z (Observe i e) (worldOf Z t))) e, observe-home i e d)
+  seen-still i e d u = (keeps (is_done (perform Z (Observe i e) (world_of Z t))) e, observe-home i e d)
     where
-      keeps : (b e : Bool) → sees (pick b (pick e nothing (unfit i)) nothing) (λ (j : ℕ). body-island (worldOf Z t) h ≡ j) (SeenUnfit H h)
+      keeps : (b e : Bool) → Sees (pick b (pick e nothing (unfit i)) nothing) (λ (j : ℕ). body_island (world_of Z t) h ≡ j) (SeenUnfit H h)
       keeps false e = u
       keeps true true = u
       keeps true false = inl u

@@ -1,12 +1,12 @@
--- What is recorded by the calls is what the lists hold: every change keeps that.
+-- What is RecordedAfter by the calls is what the lists hold: every change keeps that.
 use mathlib.Core.Path.{sym, ◌∙◌, ap, subst}
 use mathlib.Core.Logic.{inl, inr, ⊎_elim, ◌↔◌}
 use Prim.Native.Nat.{ℕ}
 use Rattle.list_in_table.proofs.Laws.{either}
-use Rattle.def_state.specs.World.{World, body-island}
+use Rattle.def_state.specs.World.{World, body_island}
 use Rattle.theorem_split.specs.Graph.{Bond, Stands}
 use Rattle.theorem_split.proofs.Member.{none_in}
-use Rattle.theorem_history.specs.Ties.{Event, recorded}
+use Rattle.theorem_history.specs.Ties.{Event, RecordedAfter}
 use Rattle.theorem_history.proofs.Change.{Change, same, still, entered, left, linked, dropped, renamed, resolved, halved, fresh}
 
 -- some island holds the link
@@ -21,7 +21,7 @@ module _ (w v : World) (R : Bond → Type 0) (K : (l : Bond) → R l ↔ Somewhe
     (λ s. (K l).1 (s.0, from s.0 l s.1)),
   )
 
-  pub keep-recorded : {e : Event} → Change e w v → (l : Bond) → recorded e w R l ↔ Somewhere v l
+  pub keep-recorded : {e : Event} → Change e w v → (l : Bond) → RecordedAfter e w R l ↔ Somewhere v l
   keep-recorded (same S) = both S.to S.from
   keep-recorded (still x n S) = λ l. (
     (λ r. (both S.to S.from l).0 r.0),
@@ -57,9 +57,9 @@ module _ (w v : World) (R : Bond → Type 0) (K : (l : Bond) → R l ↔ Somewhe
         either s.0 i
         (λ q.
         let m : Stands w i l = subst (λ (j : ℕ). Stands w j l) q s.1 in
-        either (body-island w l.body1) i (λ e. (body-island v l.body1, E.first l m e))
+        either (body_island w l.body1) i (λ e. (body_island v l.body1, E.first l m e))
         (λ d.
-        either (body-island w l.body2) i (λ e. (body-island v l.body2, E.second l m d e))
+        either (body_island w l.body2) i (λ e. (body_island v l.body2, E.second l m d e))
         (λ e. ⊎_elim (λ o. (i, o.1)) (λ o. absurd (r.1 (o.0, m, d, e))) (E.neither l m d e))))
         (λ d. (s.0, E.kept s.0 l d s.1))),
     (λ s. (

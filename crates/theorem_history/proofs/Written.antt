@@ -6,7 +6,7 @@ use Prim.Native.Nat.{ℕ, ◌<◌}
 use lib.ListN.{length, get_or, drop, get_or-append}
 use Rattle.def_kinds.specs.declared.Sizes.{Sizes}
 use Rattle.def_kinds.specs.declared.Answer.{Answer}
-use Rattle.table_meaning.specs.Decode.{worldOf}
+use Rattle.table_meaning.specs.Decode.{world_of}
 use Rattle.theorem_split.specs.Graph.{In}
 use Rattle.theorem_split.proofs.Member.{in-at}
 use Rattle.core_finish.specs.Listing.{listed_of, Finish}
@@ -23,14 +23,14 @@ front-in list out n out' e f p l =
 
 -- each number that finish wrote, after a history, is one that the definition lists
 written : (Z : Sizes) (t out : List ℕ) → History Z t → (r : Answer) (n : ℕ) (t' out' : List ℕ) → Finish Z t out r n t' out' → (p : ℕ) → p < n
-    → In (get_or out' p 0) (listed_of (length out) (worldOf Z t))
-written Z t out H r n t' out' (inl F) p l = front-in (listed_of (length out) (worldOf Z t)) out n out' F.1.length-is F.1.out-is p l
+    → In (get_or out' p 0) (listed_of (length out) (world_of Z t))
+written Z t out H r n t' out' (inl F) p l = front-in (listed_of (length out) (world_of Z t)) out n out' F.1.length_is F.1.out_is p l
 written Z t out H r n t' out' (inr F) p l = absurd (F.refuses.unsound (history-sound H))
 
 pub no-unfit-written : NoUnfitWritten
 no-unfit-written Z t out H r n t' out' F i u p l e =
-    no-unfit Z t H i u (length out) (subst (λ (x : ℕ). In x (listed_of (length out) (worldOf Z t))) e (written Z t out H r n t' out' F p l))
+    no-unfit Z t H i u (length out) (subst (λ (x : ℕ). In x (listed_of (length out) (world_of Z t))) e (written Z t out H r n t' out' F p l))
 
 pub none_written : NoneWritten
 none_written Z t out H r n t' out' F a u b q p l e =
-    none-tied-to-unfit Z t H a u b q (length out) (subst (λ (x : ℕ). In x (listed_of (length out) (worldOf Z t))) e (written Z t out H r n t' out' F p l))
+    none-tied-to-unfit Z t H a u b q (length out) (subst (λ (x : ℕ). In x (listed_of (length out) (world_of Z t))) e (written Z t out H r n t' out' F p l))

@@ -1,13 +1,13 @@
--- The four sentences of demand 3, and that what is recorded is what the lists hold. Each is proved in proofs/Sentences.antt.
+-- The four sentences of demand 3, and that what is RecordedAfter is what the lists hold. Each is proved in proofs/Sentences.antt.
 use Rattle.std.specs.Prelude.{◌≡◌, ◌≢◌, ◌↔◌, true, List, ℕ}
 use Rattle.std.proofs.Math.Option.{some}
 use Rattle.def_kinds.specs.declared.Sizes.{Sizes}
 use Rattle.def_kinds.specs.declared.Answer.{Answer}
 use Rattle.def_kinds.specs.declared.Answer.TheVariants.{Done}
 use Rattle.def_state.specs.Plain.{top}
-use Rattle.def_state.specs.World.{Handle, Removal, World, islandAt, body-island, live}
+use Rattle.def_state.specs.World.{Handle, Removal, World, island_at, body_island, live}
 use Rattle.def_state.specs.Calls.{Split, Run, perform}
-use Rattle.table_meaning.specs.Decode.{worldOf}
+use Rattle.table_meaning.specs.Decode.{world_of}
 use Rattle.table_meaning.specs.Does.{Called}
 use Rattle.theorem_split.specs.Graph.{In, Path, Bond, Stands, Whole}
 use Rattle.theorem_split.specs.Exact.{SameMembers, Exact}
@@ -15,43 +15,43 @@ use Rattle.theorem_history.specs.History.{History, Splits}
 use Rattle.theorem_history.specs.Ties.{Tie, Recorded}
 use Rattle.theorem_history.specs.Clean.{Clean, Linked}
 
--- the two bodies of a link that was recorded while both were members share an island, until it is unlinked or one of them leaves
+-- the two bodies of a link that was RecordedAfter while both were members share an island, until it is unlinked or one of them leaves
 abbrev pub Share : Type 0
 Share =
     (Z : Sizes) (t : List ℕ) (H : History Z t) (l : Bond) → Tie H l
-    → (body-island (worldOf Z t) l.body1 ≡ body-island (worldOf Z t) l.body2) × (body-island (worldOf Z t) l.body1 ≢ top)
+    → (body_island (world_of Z t) l.body1 ≡ body_island (world_of Z t) l.body2) × (body_island (world_of Z t) l.body1 ≢ top)
 
 -- no entry of the journal names two bodies of island j
 abbrev pub Unnamed : World → ℕ → Type 0
-Unnamed w j = (e : Removal) → In e w.removal-journal → body-island w e.body1 ≡ j → body-island w e.body2 ≡ j → ⊥
+Unnamed w j = (e : Removal) → In e w.removal_journal → body_island w e.body1 ≡ j → body_island w e.body2 ≡ j → ⊥
 
 -- a live island with removal count 0, two of whose bodies no entry names, is connected by its own links
 abbrev pub Connected : Type 0
 Connected =
-    (Z : Sizes) (t : List ℕ) → History Z t → (j : ℕ) → live (worldOf Z t) j ≡ true → (islandAt (worldOf Z t) j).constraint-remove-count ≡ 0
-    → Unnamed (worldOf Z t) j
-    → Whole (worldOf Z t) j
+    (Z : Sizes) (t : List ℕ) → History Z t → (j : ℕ) → live (world_of Z t) j ≡ true → (island_at (world_of Z t) j).constraint_remove_count ≡ 0
+    → Unnamed (world_of Z t) j
+    → Whole (world_of Z t) j
 
 -- an accepted split is exact, and changes no other existing island; on any tables, so after any history
 abbrev pub ExactSplit : Type 0
 ExactSplit =
-    (Z : Sizes) (i : ℕ) (t : List ℕ) (r : Answer) (t' : List ℕ) → Called Z (perform Z (Split i)) t r t' → r ≡ Done → Exact i (worldOf Z t) (worldOf Z t')
+    (Z : Sizes) (i : ℕ) (t : List ℕ) (r : Answer) (t' : List ℕ) → Called Z (perform Z (Split i)) t r t' → r ≡ Done → Exact i (world_of Z t) (world_of Z t')
 
 -- the same of an accepted run, which splits the pending island
 abbrev pub ExactRun : Type 0
 ExactRun =
     (Z : Sizes) (t : List ℕ) (r : Answer) (t' : List ℕ) → Called Z (perform Z Run) t r t' → r ≡ Done
-    → (i : ℕ) × ((worldOf Z t).split-island ≡ some i) × Exact i (worldOf Z t) (worldOf Z t')
+    → (i : ℕ) × ((world_of Z t).split_island ≡ some i) × Exact i (world_of Z t) (world_of Z t')
 
--- splitting every island once leaves exactly the components: the members are those before, and two of them are together exactly if a path of recorded
--- links between members joins them, after a history in which no body became a member while a recorded link named it
+-- splitting every island once leaves exactly the components: the members are those before, and two of them are together exactly if a path of RecordedAfter
+-- links between members joins them, after a history in which no body became a member while a RecordedAfter link named it
 abbrev pub Components : Type 0
 Components =
-    (Z : Sizes) (t t' : List ℕ) (H : History Z t) → Clean H → (ns : List ℕ) → ((i : ℕ) → live (worldOf Z t) i ≡ true → In i ns) → Splits Z ns t t'
-    → SameMembers (worldOf Z t) (worldOf Z t')
-    × ((a b : Handle) → body-island (worldOf Z t) a ≢ top → body-island (worldOf Z t) b ≢ top
-    → (body-island (worldOf Z t') a ≡ body-island (worldOf Z t') b) ↔ Path (Linked H) a b)
+    (Z : Sizes) (t t' : List ℕ) (H : History Z t) → Clean H → (ns : List ℕ) → ((i : ℕ) → live (world_of Z t) i ≡ true → In i ns) → Splits Z ns t t'
+    → SameMembers (world_of Z t) (world_of Z t')
+    × ((a b : Handle) → body_island (world_of Z t) a ≢ top → body_island (world_of Z t) b ≢ top
+    → (body_island (world_of Z t') a ≡ body_island (world_of Z t') b) ↔ Path (Linked H) a b)
 
--- a link that is recorded, by the calls and what each drops of the state before it, is one that stands in some island's list
+-- a link that is RecordedAfter, by the calls and what each drops of the state before it, is one that stands in some island's list
 abbrev pub Kept : Type 0
-Kept = (Z : Sizes) (t : List ℕ) (H : History Z t) (l : Bond) → Recorded H l ↔ ((j : ℕ) × Stands (worldOf Z t) j l)
+Kept = (Z : Sizes) (t : List ℕ) (H : History Z t) (l : Bond) → Recorded H l ↔ ((j : ℕ) × Stands (world_of Z t) j l)

@@ -6,16 +6,16 @@ use Rattle.def_kinds.specs.Choice.{pick}
 use Rattle.def_kinds.specs.declared.Sizes.{Sizes}
 use Rattle.def_kinds.specs.declared.Answer.{Answer}
 use Rattle.def_kinds.specs.declared.Answer.TheVariants.{Done}
-use Rattle.def_state.specs.World.{Handle, World, islandAt, body-island, live}
-use Rattle.def_state.specs.Split.{split-island-now, run-pending-split, split-allowed}
-use Rattle.def_state.specs.Scan.{finish-sleep-scan}
+use Rattle.def_state.specs.World.{Handle, World, island_at, body_island, live}
+use Rattle.def_state.specs.Split.{split_island_now, run_pending_split, split_allowed}
+use Rattle.def_state.specs.Scan.{finish_sleep_scan}
 use Rattle.def_state.specs.Calls.{Call, Reset, Put, Retire, Flags, Ensure, Remove, Contact, Uncontact, Renumber, Joint, Unjoint, Chain, Resolve, Split, Schedule, Run, Begin, Observe, Finish, Sleep, Wake, perform}
-use Rattle.table_meaning.specs.Decode.{worldOf}
+use Rattle.table_meaning.specs.Decode.{world_of}
 use Rattle.table_meaning.specs.Does.{Called}
 use Rattle.theorem_split.specs.Graph.{In, Path, Bond, Joins}
 use Rattle.theorem_split.specs.Exact.{Exact}
 use Rattle.theorem_history.specs.History.{History, reset, call}
-use Rattle.theorem_history.specs.Ties.{isDone, Tie}
+use Rattle.theorem_history.specs.Ties.{is_done, Tie}
 
 -- ---- Oren's
 
@@ -50,25 +50,25 @@ sight_of (Sleep j) = nothing
 sight_of (Wake j) = nothing
 
 abbrev pub sight : Sizes → Call → World → Sight
-sight Z c w = pick (isDone (perform Z c w)) (sight_of c) nothing
+sight Z c w = pick (is_done (perform Z c w)) (sight_of c) nothing
 
 -- an island that P speaks of was observed unfit in the scan: by this call, or before it (S)
-abbrev pub sees : Sight → (ℕ → Type 0) → Type 0 → Type 0
-sees nothing P S = S
-sees over P S = ⊥
-sees (unfit i) P S = S ⊎ P i
+abbrev pub Sees : Sight → (ℕ → Type 0) → Type 0 → Type 0
+Sees nothing P S = S
+Sees over P S = ⊥
+Sees (unfit i) P S = S ⊎ P i
 
 -- in the scan that is open after the history, the number i was observed unfit
 abbrev pub Unfit : {Z : Sizes} {t : List ℕ} → History Z t → ℕ → Type 0
 Unfit (reset e) i = ⊥
-Unfit {Z} (call {t} H c r d) i = sees (sight Z c (worldOf Z t)) (λ (j : ℕ). i ≡ j) (Unfit H i)
+Unfit {Z} (call {t} H c r d) i = Sees (sight Z c (world_of Z t)) (λ (j : ℕ). i ≡ j) (Unfit H i)
 
 -- in that scan the island of body h was observed unfit, and no call since has changed the island of h
 abbrev pub SeenUnfit : {Z : Sizes} {t : List ℕ} → History Z t → Handle → Type 0
 SeenUnfit (reset e) h = ⊥
 SeenUnfit {Z} (call {t} {t'} H c r d) h =
-    sees (sight Z c (worldOf Z t)) (λ (j : ℕ). body-island (worldOf Z t) h ≡ j) (SeenUnfit H h)
-    × (body-island (worldOf Z t') h ≡ body-island (worldOf Z t) h)
+    Sees (sight Z c (world_of Z t)) (λ (j : ℕ). body_island (world_of Z t) h ≡ j) (SeenUnfit H h)
+    × (body_island (world_of Z t') h ≡ body_island (world_of Z t) h)
 
 -- a tie joins a and b
 abbrev pub Tied : {Z : Sizes} {t : List ℕ} → History Z t → Handle → Handle → Type 0
@@ -77,13 +77,13 @@ Tied H a b = (l : Bond) × Tie H l × Joins l a b
 -- a finish, on the tables that the history left, lists no number that was observed unfit in the scan, whatever the other calls were
 abbrev pub NoUnfit : Type 0
 NoUnfit =
-    (Z : Sizes) (t : List ℕ) (H : History Z t) (i : ℕ) → Unfit H i → (room : ℕ) → In i (finish-sleep-scan room (worldOf Z t)).listed → ⊥
+    (Z : Sizes) (t : List ℕ) (H : History Z t) (i : ℕ) → Unfit H i → (room : ℕ) → In i (finish_sleep_scan room (world_of Z t)).listed → ⊥
 
 -- it lists no island with a body that was seen unfit, nor with one that ties lead to from there
 abbrev pub NoneTiedToUnfit : Type 0
 NoneTiedToUnfit =
     (Z : Sizes) (t : List ℕ) (H : History Z t) (a : Handle) → SeenUnfit H a → (b : Handle) → Path (Tied H) a b → (room : ℕ)
-    → In (body-island (worldOf Z t) b) (finish-sleep-scan room (worldOf Z t)).listed
+    → In (body_island (world_of Z t) b) (finish_sleep_scan room (world_of Z t)).listed
     → ⊥
 
 -- ---- Dana's
@@ -131,9 +131,9 @@ Spares (Joint q h1 h2) i w = Unit {0}
 Spares (Unjoint q) i w = Unit {0}
 Spares (Chain high low hs) i w = Unit {0}
 Spares Resolve i w = Unit {0}
-Spares (Split j) i w = j ≡ i → (split-island-now j w).answer ≢ Done
+Spares (Split j) i w = j ≡ i → (split_island_now j w).answer ≢ Done
 Spares (Schedule j) i w = Unit {0}
-Spares Run i w = w.split-island ≡ some i → (run-pending-split w).answer ≢ Done
+Spares Run i w = w.split_island ≡ some i → (run_pending_split w).answer ≢ Done
 Spares Begin i w = Unit {0}
 Spares (Observe j e) i w = Unit {0}
 Spares (Finish room) i w = Unit {0}
@@ -143,32 +143,32 @@ Spares (Wake j) i w = Unit {0}
 -- K is H and further calls, none of which splits island i
 pub data Unsplit {Z : Sizes} {t : List ℕ} (H : History Z t) (i : ℕ) : (u : List ℕ) → History Z u → Type 0 where
   now : Unsplit H i t H
-  later : {u v : List ℕ} {K : History Z u} → Unsplit H i u K → (c : Call) (r : Answer) (d : Called Z (perform Z c) u r v) → Spares c i (worldOf Z u) → Unsplit H i v (call K c r d)
+  later : {u v : List ℕ} {K : History Z u} → Unsplit H i u K → (c : Call) (r : Answer) (d : Called Z (perform Z c) u r v) → Spares c i (world_of Z u) → Unsplit H i v (call K c r d)
 
 -- an island that has not been split while 16 scans began may bid, where it is live and its count is not 0, and the stamp has not wrapped
 abbrev pub MayBid : Type 0
 MayBid =
     (Z : Sizes) (t u : List ℕ) (H : History Z t) (K : History Z u) (i : ℕ) → Unsplit H i u K → begins H + 16 ≤ begins K → begins K ≤ 4294967295
-    → live (worldOf Z u) i ≡ true
-    → (islandAt (worldOf Z u) i).constraint-remove-count ≢ 0
-    → split-allowed i (worldOf Z u) ≡ true
+    → live (world_of Z u) i ≡ true
+    → (island_at (world_of Z u) i).constraint_remove_count ≢ 0
+    → split_allowed i (world_of Z u) ≡ true
 
 -- schedule and then run (t, u, v: tables before, between, after) split island i: its count is 0 then
 abbrev pub RunSplits : (Z : Sizes) (i : ℕ) (t u v : List ℕ) → Type 0
 RunSplits Z i t u v =
     (r s : Answer) → Called Z (perform Z (Schedule i)) t r u → Called Z (perform Z Run) u s v
-    → (s ≡ Done) × Exact i (worldOf Z u) (worldOf Z v) × ((islandAt (worldOf Z v) i).constraint-remove-count ≡ 0)
+    → (s ≡ Done) × Exact i (world_of Z u) (world_of Z v) × ((island_at (world_of Z v) i).constraint_remove_count ≡ 0)
 
 -- they do where it may bid and is awake
 abbrev pub BidSplits : Type 0
 BidSplits =
-    (Z : Sizes) (t u v : List ℕ) → History Z t → (i : ℕ) → split-allowed i (worldOf Z t) ≡ true → (islandAt (worldOf Z t) i).sleeping ≡ false → RunSplits Z i t u v
+    (Z : Sizes) (t u v : List ℕ) → History Z t → (i : ℕ) → split_allowed i (world_of Z t) ≡ true → (island_at (world_of Z t) i).sleeping ≡ false → RunSplits Z i t u v
 
 -- so an island that is live and awake, and whose count is not 0, is split by the time that 16 scans have begun, or then
 abbrev pub SplitWithin16 : Type 0
 SplitWithin16 =
     (Z : Sizes) (t u v x : List ℕ) (H : History Z t) (K : History Z u) (i : ℕ) → Unsplit H i u K → begins H + 16 ≤ begins K → begins K ≤ 4294967295
-    → live (worldOf Z u) i ≡ true
-    → (islandAt (worldOf Z u) i).constraint-remove-count ≢ 0
-    → (islandAt (worldOf Z u) i).sleeping ≡ false
+    → live (world_of Z u) i ≡ true
+    → (island_at (world_of Z u) i).constraint_remove_count ≢ 0
+    → (island_at (world_of Z u) i).sleeping ≡ false
     → RunSplits Z i u v x

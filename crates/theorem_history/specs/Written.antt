@@ -2,8 +2,8 @@
 use Rattle.std.specs.Prelude.{◌≢◌, List, ℕ, ◌<◌, get_or}
 use Rattle.def_kinds.specs.declared.Sizes.{Sizes}
 use Rattle.def_kinds.specs.declared.Answer.{Answer}
-use Rattle.def_state.specs.World.{Handle, body-island}
-use Rattle.table_meaning.specs.Decode.{worldOf}
+use Rattle.def_state.specs.World.{Handle, body_island}
+use Rattle.table_meaning.specs.Decode.{world_of}
 use Rattle.core_finish.specs.Listing.{Finish}
 use Rattle.theorem_split.specs.Graph.{Path}
 use Rattle.theorem_history.specs.History.{History}
@@ -20,4 +20,4 @@ abbrev pub NoneWritten : Type 0
 NoneWritten =
     (Z : Sizes) (t out : List ℕ) (H : History Z t) (r : Answer) (n : ℕ) (t' out' : List ℕ) → Finish Z t out r n t' out' → (a : Handle) → SeenUnfit H a → (b : Handle)
     → Path (Tied H) a b
-    → (p : ℕ) → p < n → get_or out' p 0 ≢ body-island (worldOf Z t) b
+    → (p : ℕ) → p < n → get_or out' p 0 ≢ body_island (world_of Z t) b

@@ -13,11 +13,11 @@ use Rattle.def_kinds.specs.declared.Sizes.{Sizes}
 use Rattle.def_kinds.specs.declared.Answer.{Answer}
 use Rattle.def_kinds.specs.declared.Answer.TheVariants.{Done, Nothing, NoIsland, BadTables}
 use Rattle.def_state.specs.Plain.{top}
-use Rattle.def_state.specs.World.{Handle, Island, World, Step, islandAt, named, islandOf, body-island, live}
-use Rattle.def_state.specs.Fields.{split-set}
+use Rattle.def_state.specs.World.{Handle, Island, World, Step, island_at, named, island_of, body_island, live}
+use Rattle.def_state.specs.Fields.{split_set}
 use Rattle.def_state.specs.Connected.{components}
-use Rattle.def_state.specs.Split.{labelsOf, checked, split, split-island-now, runSplit, run-pending-split}
-use Rattle.table_meaning.specs.Decode.{worldOf}
+use Rattle.def_state.specs.Split.{labels_of, checked, split, split_island_now, run_split, run_pending_split}
+use Rattle.table_meaning.specs.Decode.{world_of}
 use Rattle.table_meaning.specs.Layout.{tables, extents}
 use Rattle.table_meaning.specs.Sound.{Good, Sound}
 use Rattle.table_meaning.proofs.Unique.{slots-is, islands-is}
@@ -35,10 +35,10 @@ use Rattle.theorem_split.proofs.Sound.{sound-fine}
 
 module _ (i : ℕ) (w v : World) (A : Apart w) (it : i ≢ top) (P : Parted i w v) where
   abbrev was : Handle → ℕ
-  was h = body-island w h
+  was h = body_island w h
 
   abbrev is : Handle → ℕ
-  is h = body-island v h
+  is h = body_island v h
 
   -- an island that is live beside i has afterwards the bodies that it had
   lives : (j : ℕ) (a : Handle) → was a ≡ j → j ≢ top → live w j ≡ true
@@ -110,8 +110,8 @@ module _ (i : ℕ) (w v : World) (A : Apart w) (it : i ≢ top) (P : Parted i w 
 -- ---- of tables
 
 -- the split that an accepted call makes
-pub split-made : (i : ℕ) (w : World) → (split-island-now i w).answer ≡ Done → (live w i ≡ true) × ((split-island-now i w).after ≡ split i w)
-unfolding split-island-now
+pub split-made : (i : ℕ) (w : World) → (split_island_now i w).answer ≡ Done → (live w i ≡ true) × ((split_island_now i w).after ≡ split i w)
+unfolding split_island_now
 split-made i w e = bool (live w i) (λ l. (l, rw l)) (λ l. absurd (differ (sym (rw l at e))))
   where
     differ : ◌≡◌ {A = Answer} Done NoIsland → ⊥
@@ -125,28 +125,28 @@ pub accepted : (Z : Sizes) (f : World → Step) (t : List ℕ) (r : Answer) (t' 
 accepted Z f t r t' (inl c) e = c
 accepted Z f t r t' (inr c) e = absurd (not-nine r e c.nine)
 
-module _ (Z : Sizes) (i : ℕ) (t : List ℕ) (r : Answer) (t' : List ℕ) (c : Called Z (split-island-now i) t r t') (e : r ≡ Done) where
-  ok : Sound Z t × Does Z (split-island-now i) t r t'
-  ok = accepted Z (split-island-now i) t r t' c e
+module _ (Z : Sizes) (i : ℕ) (t : List ℕ) (r : Answer) (t' : List ℕ) (c : Called Z (split_island_now i) t r t') (e : r ≡ Done) where
+  ok : Sound Z t × Does Z (split_island_now i) t r t'
+  ok = accepted Z (split_island_now i) t r t' c e
 
-  made : (live (worldOf Z t) i ≡ true) × ((split-island-now i (worldOf Z t)).after ≡ split i (worldOf Z t))
-  made = split-made i (worldOf Z t) (sym ok.1.answer ∙ e)
+  made : (live (world_of Z t) i ≡ true) × ((split_island_now i (world_of Z t)).after ≡ split i (world_of Z t))
+  made = split-made i (world_of Z t) (sym ok.1.answer ∙ e)
 
-  pub split-parted : Parted i (worldOf Z t) (worldOf Z t')
+  pub split-parted : Parted i (world_of Z t) (world_of Z t')
   split-parted =
-      let q : worldOf Z t' ≡ split i (worldOf Z t) = ok.1.after ∙ made.1 in
-      subst (λ (v : World). Parted i (worldOf Z t) v) (sym q)
-      (split_parts (worldOf Z t) (sound-fine Z t ok.0) i made.0 (subst (λ (v : World). length v.islands ≤ top) q (sound-fine Z t' ok.1.sound).apart.small))
+      let q : world_of Z t' ≡ split i (world_of Z t) = ok.1.after ∙ made.1 in
+      subst (λ (v : World). Parted i (world_of Z t) v) (sym q)
+      (split_parts (world_of Z t) (sound-fine Z t ok.0) i made.0 (subst (λ (v : World). length v.islands ≤ top) q (sound-fine Z t' ok.1.sound).apart.small))
 
   -- an accepted split is exact
-  pub split-exact : Exact i (worldOf Z t) (worldOf Z t')
+  pub split-exact : Exact i (world_of Z t) (world_of Z t')
   split-exact =
       let F = sound-fine Z t ok.0 in
-      exact-of i (worldOf Z t) (worldOf Z t') F.apart (live-number (worldOf Z t) F i made.0) split-parted
+      exact-of i (world_of Z t) (world_of Z t') F.apart (live-number (world_of Z t) F i made.0) split-parted
 
 -- ---- the waiting split: the pending number is cleared, then the split
 
-pub fine-pending : (w : World) (o : Option ℕ) → Fine w → Fine (split-set w o)
+pub fine-pending : (w : World) (o : Option ℕ) → Fine w → Fine (split_set w o)
 fine-pending w o F =
     record {
       apart = record { small = F.apart.small; once = F.apart.once };
@@ -161,24 +161,24 @@ fine-pending w o F =
       slots = F.slots;
     }
 
-pub pending-home : (w : World) (o : Option ℕ) (h : Handle) → body-island (split-set w o) h ≡ body-island w h
-unfolding body-island named islandOf
+pub pending-home : (w : World) (o : Option ℕ) (h : Handle) → body_island (split_set w o) h ≡ body_island w h
+unfolding body_island named island_of
 pending-home w o h = refl
 
-pub pending-live : (w : World) (o : Option ℕ) (j : ℕ) → live (split-set w o) j ≡ live w j
+pub pending-live : (w : World) (o : Option ℕ) (j : ℕ) → live (split_set w o) j ≡ live w j
 unfolding live
 pending-live w o j = refl
 
 -- which island an accepted run splits
 pub record Ran (w v : World) : Type 0 where
   pub number : ℕ
-  pub was-pending : w.split-island ≡ some number
-  pub was-live : live w number ≡ true
-  pub after : v ≡ split number (split-set w none)
+  pub was_pending : w.split_island ≡ some number
+  pub was_live : live w number ≡ true
+  pub after : v ≡ split number (split_set w none)
 
-pub run-made : (w : World) → (run-pending-split w).answer ≡ Done → Ran w (run-pending-split w).after
-unfolding run-pending-split
-run-made w e = cases w.split-island refl
+pub run-made : (w : World) → (run_pending_split w).answer ≡ Done → Ran w (run_pending_split w).after
+unfolding run_pending_split
+run-made w e = cases w.split_island refl
   where
     differ : ◌≡◌ {A = Answer} Nothing Done → ⊥
     differ q = let z : ◌≡◌ {A = ℕ} 0 1 = cc in omega arith
@@ -187,20 +187,20 @@ run-made w e = cases w.split-island refl
     both true b q = refl
     both false b q = absurd (false≢true q)
 
-    cases : (o : Option ℕ) → w.split-island ≡ o → Ran w (runSplit w.split-island (split-set w none)).after
-    cases none q = absurd (differ (ap (λ (x : Option ℕ). (runSplit x (split-set w none)).answer) (sym q) ∙ e))
+    cases : (o : Option ℕ) → w.split_island ≡ o → Ran w (run_split w.split_island (split_set w none)).after
+    cases none q = absurd (differ (ap (λ (x : Option ℕ). (run_split x (split_set w none)).answer) (sym q) ∙ e))
     cases (some i) q =
-        bool (live (split-set w none) i && not (islandAt w i).sleeping)
+        bool (live (split_set w none) i && not (island_at w i).sleeping)
         (λ l.
         record {
           number = i;
-          was-pending = q;
-          was-live = sym (pending-live w none i) ∙ both (live (split-set w none) i) _ l;
-          after = ap (λ (x : Option ℕ). (runSplit x (split-set w none)).after) q ∙ rw l;
+          was_pending = q;
+          was_live = sym (pending-live w none i) ∙ both (live (split_set w none) i) _ l;
+          after = ap (λ (x : Option ℕ). (run_split x (split_set w none)).after) q ∙ rw l;
         })
-        (λ l. absurd (differ (sym (rw l) ∙ ap (λ (x : Option ℕ). (runSplit x (split-set w none)).answer) (sym q) ∙ e)))
+        (λ l. absurd (differ (sym (rw l) ∙ ap (λ (x : Option ℕ). (run_split x (split_set w none)).answer) (sym q) ∙ e)))
 
-own-pending : (w : World) (o : Option ℕ) (i : ℕ) (a b : Handle) → Own (split-set w o) i a b → Own w i a b
+own-pending : (w : World) (o : Option ℕ) (i : ℕ) (a b : Handle) → Own (split_set w o) i a b → Own w i a b
 own-pending w o i a b x =
     record {
       link = x.link;
@@ -210,7 +210,7 @@ own-pending w o i a b x =
       second = sym (pending-home w o b) ∙ x.second;
     }
 
-pending-own : (w : World) (o : Option ℕ) (i : ℕ) (a b : Handle) → Own w i a b → Own (split-set w o) i a b
+pending-own : (w : World) (o : Option ℕ) (i : ℕ) (a b : Handle) → Own w i a b → Own (split_set w o) i a b
 pending-own w o i a b x =
     record {
       link = x.link;
@@ -220,7 +220,7 @@ pending-own w o i a b x =
       second = pending-home w o b ∙ x.second;
     }
 
-exact-pending : (w : World) (o : Option ℕ) (i : ℕ) (v : World) → Exact i (split-set w o) v → Exact i w v
+exact-pending : (w : World) (o : Option ℕ) (i : ℕ) (v : World) → Exact i (split_set w o) v → Exact i w v
 exact-pending w o i v E =
     record {
       members = λ h. ((λ d e. (E.members h).0 d (pending-home w o h ∙ e)), (λ d. (E.members h).1 (λ e. d (sym (pending-home w o h) ∙ e))));
@@ -235,63 +235,63 @@ exact-pending w o i v E =
       others = λ j d l. E.others j d (pending-live w o j ∙ l);
     }
 
-pub run-parted : (Z : Sizes) (t : List ℕ) (r : Answer) (t' : List ℕ) → Sound Z t × Does Z run-pending-split t r t' → r ≡ Done
-    → (n : ℕ) × ((worldOf Z t).split-island ≡ some n) × (live (worldOf Z t) n ≡ true) × Parted n (split-set (worldOf Z t) none) (worldOf Z t')
+pub run-parted : (Z : Sizes) (t : List ℕ) (r : Answer) (t' : List ℕ) → Sound Z t × Does Z run_pending_split t r t' → r ≡ Done
+    → (n : ℕ) × ((world_of Z t).split_island ≡ some n) × (live (world_of Z t) n ≡ true) × Parted n (split_set (world_of Z t) none) (world_of Z t')
 run-parted Z t r t' c e =
-    let R = run-made (worldOf Z t) (sym c.1.answer ∙ e) in
-    let q : worldOf Z t' ≡ split R.number (split-set (worldOf Z t) none) = c.1.after ∙ R.after in (
+    let R = run-made (world_of Z t) (sym c.1.answer ∙ e) in
+    let q : world_of Z t' ≡ split R.number (split_set (world_of Z t) none) = c.1.after ∙ R.after in (
       R.number,
-      R.was-pending,
-      R.was-live,
-      subst (λ (v : World). Parted R.number (split-set (worldOf Z t) none) v) (sym q)
-          (split_parts (split-set (worldOf Z t) none) (fine-pending (worldOf Z t) none (sound-fine Z t c.0)) R.number (pending-live (worldOf Z t) none R.number ∙ R.was-live)
+      R.was_pending,
+      R.was_live,
+      subst (λ (v : World). Parted R.number (split_set (world_of Z t) none) v) (sym q)
+          (split_parts (split_set (world_of Z t) none) (fine-pending (world_of Z t) none (sound-fine Z t c.0)) R.number (pending-live (world_of Z t) none R.number ∙ R.was_live)
           (subst (λ (v : World). length v.islands ≤ top) q (sound-fine Z t' c.1.sound).apart.small)),
     )
 
 -- an accepted run splits the pending island, exactly
-pub run-exact : (Z : Sizes) (t : List ℕ) (r : Answer) (t' : List ℕ) → Called Z run-pending-split t r t' → r ≡ Done
-    → (n : ℕ) × ((worldOf Z t).split-island ≡ some n) × Exact n (worldOf Z t) (worldOf Z t')
+pub run-exact : (Z : Sizes) (t : List ℕ) (r : Answer) (t' : List ℕ) → Called Z run_pending_split t r t' → r ≡ Done
+    → (n : ℕ) × ((world_of Z t).split_island ≡ some n) × Exact n (world_of Z t) (world_of Z t')
 run-exact Z t r t' c e =
-    let k = accepted Z run-pending-split t r t' c e in
+    let k = accepted Z run_pending_split t r t' c e in
     let R = run-parted Z t r t' k e in
     let F = sound-fine Z t k.0 in
-    let F' = fine-pending (worldOf Z t) none F in (
+    let F' = fine-pending (world_of Z t) none F in (
       R.0,
       R.1,
-      exact-pending (worldOf Z t) none R.0 (worldOf Z t')
-          (exact-of R.0 (split-set (worldOf Z t) none) (worldOf Z t') F'.apart (live-number (worldOf Z t) F R.0 R.2) R.3),
+      exact-pending (world_of Z t) none R.0 (world_of Z t')
+          (exact-of R.0 (split_set (world_of Z t) none) (world_of Z t') F'.apart (live-number (world_of Z t) F R.0 R.2) R.3),
     )
 
 -- ---- an island that is connected: nothing but its count and its denial changes
 
 pub whole-checked : (w : World) → Fine w → (i : ℕ) → live w i ≡ true → Whole w i → split i w ≡ checked i w
 unfolding split
-whole-checked w F i lv W = rw (le-leb (components (labelsOf w i)) 1 (whole-one w F i lv W))
+whole-checked w F i lv W = rw (le-leb (components (labels_of w i)) 1 (whole-one w F i lv W))
 
 -- ---- without a call: of any sound tables and any live island
 
-module _ (Z : Sizes) (t : List ℕ) (S : Sound Z t) (i : ℕ) (lv : live (worldOf Z t) i ≡ true) where
+module _ (Z : Sizes) (t : List ℕ) (S : Sound Z t) (i : ℕ) (lv : live (world_of Z t) i ≡ true) where
   abbrev G : Good Z (extents (tables Z t)) (tables Z t)
   G = S.good
 
-  few-slots : length (worldOf Z t).bodies ≤ Z.islands
-  few-slots = let a = slots-is Z t in let b = G.slots-le in let c = G.enough in omega arith
+  few-slots : length (world_of Z t).bodies ≤ Z.islands
+  few-slots = let a = slots-is Z t in let b = G.slots_le in let c = G.enough in omega arith
 
   -- island numbers do not run out
-  pub split-room : length (split i (worldOf Z t)).islands ≤ Z.islands
+  pub split-room : length (split i (world_of Z t)).islands ≤ Z.islands
   split-room =
       let b = islands-is Z t in
-      let c = G.islands-le in
+      let c = G.islands_le in
       let d = few-slots in
-      ⊎_elim (λ e. omega arith) (λ e. omega arith) (split-long (worldOf Z t) (sound-fine Z t S) i lv)
+      ⊎_elim (λ e. omega arith) (λ e. omega arith) (split-long (world_of Z t) (sound-fine Z t S) i lv)
 
-  split-top : length (split i (worldOf Z t)).islands ≤ top
-  split-top = split-small (worldOf Z t) (sound-fine Z t S) (let a = slots-is Z t in let b = G.members-wf.rules.n-small in omega arith) i lv
+  split-top : length (split i (world_of Z t)).islands ≤ top
+  split-top = split-small (world_of Z t) (sound-fine Z t S) (let a = slots-is Z t in let b = G.members_wf.rules.n_small in omega arith) i lv
 
-  pub parted-now : Parted i (worldOf Z t) (split i (worldOf Z t))
-  parted-now = split_parts (worldOf Z t) (sound-fine Z t S) i lv split-top
+  pub parted-now : Parted i (world_of Z t) (split i (world_of Z t))
+  parted-now = split_parts (world_of Z t) (sound-fine Z t S) i lv split-top
 
-  pub exact-now : Exact i (worldOf Z t) (split i (worldOf Z t))
+  pub exact-now : Exact i (world_of Z t) (split i (world_of Z t))
   exact-now =
       let F = sound-fine Z t S in
-      exact-of i (worldOf Z t) (split i (worldOf Z t)) F.apart (live-number (worldOf Z t) F i lv) parted-now
+      exact-of i (world_of Z t) (split i (world_of Z t)) F.apart (live-number (world_of Z t) F i lv) parted-now

@@ -12,7 +12,7 @@ use Rattle.def_kinds.specs.Choice.{pick}
 use Rattle.list_in_table.proofs.Laws.{either}
 use Rattle.list_in_table.proofs.Same.{below}
 use Rattle.def_state.specs.Plain.{top}
-use Rattle.def_state.specs.Connected.{tally, components, weight, most, first, keepLabel}
+use Rattle.def_state.specs.Connected.{tally, components, weight, most, first, keep_label}
 use Rattle.def_state.specs.Split.{leads, goal}
 use Rattle.theorem_split.specs.Graph.{In}
 use Rattle.theorem_split.proofs.Member.{in-at}
@@ -70,15 +70,15 @@ one_label L l a b la lb oa ob =
 
 module _ (L : List ℕ) (own : (i : ℕ) → i < length L → get_or L (get_or L i 0) 0 ≡ get_or L i 0) (lt : (i : ℕ) → i < length L → get_or L i 0 < length L) (some : 0 < length L) where
   abbrev keep : ℕ
-  keep = keepLabel L
+  keep = keep_label L
 
-  keep-own : get_or L (keepLabel L) 0 ≡ keepLabel L
-  unfolding keepLabel
-  keep-own = own (first (weight L) (length L)) (first-lt (weight L) (length L) some)
+  keep_own : get_or L (keep_label L) 0 ≡ keep_label L
+  unfolding keep_label
+  keep_own = own (first (weight L) (length L)) (first-lt (weight L) (length L) some)
 
-  pub keep-lt : keepLabel L < length L
-  unfolding keepLabel
-  keep-lt = lt (first (weight L) (length L)) (first-lt (weight L) (length L) some)
+  pub keep_lt : keep_label L < length L
+  unfolding keep_label
+  keep_lt = lt (first (weight L) (length L)) (first-lt (weight L) (length L) some)
 
   leads-yes : (j : ℕ) → j ≢ keep → get_or L j 0 ≡ j → one (leads L keep j) ≡ 1
   unfolding leads
@@ -109,7 +109,7 @@ module _ (L : List ℕ) (own : (i : ℕ) → i < length L → get_or L (get_or L
       (λ e.
       let h = ranks-low m (omega arith) in
       let k = leads-kept m e in
-      let o : one (eqb (get_or L m 0) m) ≡ 1 = rw (eq-eqb (get_or L m 0) m (subst (λ (x : ℕ). get_or L x 0 ≡ x) (sym e) keep-own)) in
+      let o : one (eqb (get_or L m 0) m) ≡ 1 = rw (eq-eqb (get_or L m 0) m (subst (λ (x : ℕ). get_or L x 0 ≡ x) (sym e) keep_own)) in
       omega arith)
       (λ d.
       let h = ranks-high m (omega arith) in
@@ -118,7 +118,7 @@ module _ (L : List ℕ) (own : (i : ℕ) → i < length L → get_or L (get_or L
 
   pub ranks : tally (leads L keep) (length L) ≡ components L - 1
   unfolding components
-  ranks = let h = ranks-high (length L) keep-lt in omega arith
+  ranks = let h = ranks-high (length L) keep_lt in omega arith
 
   -- past a label that leaves, the rank is greater
   rank_lt : (a b : ℕ) → a < b → a ≢ keep → get_or L a 0 ≡ a → tally (leads L keep) a < tally (leads L keep) b

@@ -11,8 +11,8 @@ use Rattle.list_in_table.proofs.Laws.{either}
 use Rattle.list_in_table.proofs.Same.{below}
 use Rattle.table_meaning.proofs.Tab.{get_d_beyond}
 use Rattle.def_state.specs.Plain.{top, has}
-use Rattle.def_state.specs.World.{Handle, Island, noIsland, World, body_of, islandAt, named, islandBelow, islandOf, body-island}
-use Rattle.theorem_split.specs.Graph.{In, Bond, bondsOf, Stands}
+use Rattle.def_state.specs.World.{Handle, Island, absent_island, World, body_of, island_at, named, island_below, island_of, body_island}
+use Rattle.theorem_split.specs.Graph.{In, Bond, bonds_of, Stands}
 use Rattle.theorem_split.specs.Fine.{Apart}
 use Rattle.theorem_split.proofs.Member.{none_in, in-has, has_in}
 
@@ -22,62 +22,62 @@ bool true f g = f refl
 bool false f g = g refl
 
 -- an island that has something is one in use
-pub in_use : (w : World) (i : ℕ) {s : ℕ} → In s (islandAt w i).bodies → i < length w.islands
+pub in_use : (w : World) (i : ℕ) {s : ℕ} → In s (island_at w i).bodies → i < length w.islands
 in_use w i {s} m =
     below i (length w.islands) (λ l. l)
-    (λ l. absurd (none_in (subst (λ (a : Island). In s a.bodies) (get_d_beyond w.islands noIsland i l) m)))
+    (λ l. absurd (none_in (subst (λ (a : Island). In s a.bodies) (get_d_beyond w.islands absent_island i l) m)))
 
 pub stands-use : (w : World) (i : ℕ) (l : Bond) → Stands w i l → i < length w.islands
 stands-use w i l m =
-    below i (length w.islands) (λ k. k) (λ k. absurd (none_in (subst (λ (a : Island). In l (bondsOf a)) (get_d_beyond w.islands noIsland i k) m)))
+    below i (length w.islands) (λ k. k) (λ k. absurd (none_in (subst (λ (a : Island). In l (bonds_of a)) (get_d_beyond w.islands absent_island i k) m)))
 
 -- the search finds an island that lists the slot
-pub below-found : (is : List Island) (s k : ℕ) → islandBelow is s k ≢ top → In s (get_or is (islandBelow is s k) noIsland).bodies
-unfolding islandBelow
+pub below-found : (is : List Island) (s k : ℕ) → island_below is s k ≢ top → In s (get_or is (island_below is s k) absent_island).bodies
+unfolding island_below
 below-found is s zero d = absurd (d refl)
 below-found is s (suc k) d =
-    bool (has (get_or is k noIsland).bodies s) (λ e. rw e (has_in (get_or is k noIsland).bodies s e)) (λ e. rw e (below-found is s k (rw e at d)))
+    bool (has (get_or is k absent_island).bodies s) (λ e. rw e (has_in (get_or is k absent_island).bodies s e)) (λ e. rw e (below-found is s k (rw e at d)))
 
 -- and any that does, where only one does
-pub below-finds : (is : List Island) (s i k : ℕ) → i < k → In s (get_or is i noIsland).bodies → ((j : ℕ) → In s (get_or is j noIsland).bodies → j ≡ i)
-    → islandBelow is s k ≡ i
-unfolding islandBelow
+pub below-finds : (is : List Island) (s i k : ℕ) → i < k → In s (get_or is i absent_island).bodies → ((j : ℕ) → In s (get_or is j absent_island).bodies → j ≡ i)
+    → island_below is s k ≡ i
+unfolding island_below
 below-finds is s i zero l m o = absurd (omega arith)
 below-finds is s i (suc k) l m o =
-    bool (has (get_or is k noIsland).bodies s) (λ e. rw e (o k (has_in (get_or is k noIsland).bodies s e)))
+    bool (has (get_or is k absent_island).bodies s) (λ e. rw e (o k (has_in (get_or is k absent_island).bodies s e)))
     (λ e.
     rw e
     (below-finds is s i k
-    (either i k (λ q. absurd (false≢true (sym e ∙ subst (λ (j : ℕ). has (get_or is j noIsland).bodies s ≡ true) q (in-has m)))) (λ d. omega arith))
+    (either i k (λ q. absurd (false≢true (sym e ∙ subst (λ (j : ℕ). has (get_or is j absent_island).bodies s ≡ true) q (in-has m)))) (λ d. omega arith))
     m
     o))
 
-pub slot-listed : (w : World) (s i : ℕ) → islandOf w s ≡ i → i ≢ top → In s (islandAt w i).bodies
-unfolding islandOf
+pub slot-listed : (w : World) (s i : ℕ) → island_of w s ≡ i → i ≢ top → In s (island_at w i).bodies
+unfolding island_of
 slot-listed w s i e d = rw e at (below-found w.islands s (length w.islands) (λ q. d (sym e ∙ q)))
 
-pub listed-slot : (w : World) → Apart w → (s i : ℕ) → In s (islandAt w i).bodies → islandOf w s ≡ i
-unfolding islandOf
+pub listed-slot : (w : World) → Apart w → (s i : ℕ) → In s (island_at w i).bodies → island_of w s ≡ i
+unfolding island_of
 listed-slot w A s i m = below-finds w.islands s i (length w.islands) (in_use w i m) m (λ j k. A.once j i s k m)
 
 -- ---- handles
 
 -- h names a live body that is in island i
 pub record Member (w : World) (i : ℕ) (h : Handle) : Type 0 where
-  pub named-is : named w h ≡ true
-  pub listed : In h.slot (islandAt w i).bodies
+  pub named_is : named w h ≡ true
+  pub listed : In h.slot (island_at w i).bodies
 
-pub member : (w : World) (i : ℕ) (h : Handle) → body-island w h ≡ i → i ≢ top → Member w i h
-unfolding body-island
+pub member : (w : World) (i : ℕ) (h : Handle) → body_island w h ≡ i → i ≢ top → Member w i h
+unfolding body_island
 member w i h e d =
-    bool (named w h) (λ n. record { named-is = n; listed = slot-listed w h.slot i (rw n at e) d }) (λ n. absurd (d (sym (rw n at e))))
+    bool (named w h) (λ n. record { named_is = n; listed = slot-listed w h.slot i (rw n at e) d }) (λ n. absurd (d (sym (rw n at e))))
 
-pub at_home : (w : World) → Apart w → (i : ℕ) (h : Handle) → Member w i h → body-island w h ≡ i
-unfolding body-island
-at_home w A i h m = rw m.named-is (listed-slot w A h.slot i m.listed)
+pub at_home : (w : World) → Apart w → (i : ℕ) (h : Handle) → Member w i h → body_island w h ≡ i
+unfolding body_island
+at_home w A i h m = rw m.named_is (listed-slot w A h.slot i m.listed)
 
-pub home-top : (w : World) (h : Handle) → named w h ≡ false → body-island w h ≡ top
-unfolding body-island
+pub home-top : (w : World) (h : Handle) → named w h ≡ false → body_island w h ≡ top
+unfolding body_island
 home-top w h e = rw e
 
 pub handle-same : (h k : Handle) → h.slot ≡ k.slot → h.generation ≡ k.generation → h ≡ k

@@ -9,7 +9,7 @@ use lib.ListN.{length, get_or, take, drop, length-drop, set, length-set}
 use lib.Seq.{take-suc, take-length, split_at, length-take-le, get_or-take, get_or-drop, get_or-set_same, get_or-set_other}
 use borrow.Author.Tests.{eq-eqb, ne_eqb}
 use Rattle.list_in_table.proofs.Laws.{either}
-use Rattle.def_state.specs.Plain.{has, swapRemove}
+use Rattle.def_state.specs.Plain.{has, swap_remove}
 use Rattle.theorem_split.specs.Graph.{In, here, there}
 
 pred : (n : ℕ) → suc n - 1 ≡ n
@@ -56,10 +56,10 @@ module _ {A : Type 0} where
   turned d [] = []
   turned d (r ∷ R) = get_or (r ∷ R) (length R) d ∷ take (length R) (r ∷ R)
 
-  swap-cons : (d a y : A) (ys : List A) (p : ℕ) → swapRemove d (a ∷ y ∷ ys) (suc p) ≡ a ∷ swapRemove d (y ∷ ys) p
+  swap-cons : (d a y : A) (ys : List A) (p : ℕ) → swap_remove d (a ∷ y ∷ ys) (suc p) ≡ a ∷ swap_remove d (y ∷ ys) p
   swap-cons d a y ys p = rw (pred (suc (length ys)), pred (length ys))
 
-  pub swap_at : (d : A) (X : List A) (x : A) (R : List A) → swapRemove d (X ++ (x ∷ R)) (length X) ≡ X ++ turned d R
+  pub swap_at : (d : A) (X : List A) (x : A) (R : List A) → swap_remove d (X ++ (x ∷ R)) (length X) ≡ X ++ turned d R
   swap_at d [] x [] = refl
   swap_at d [] x (r ∷ R) = rw (pred (suc (length R)))
   swap_at d (a ∷ []) x R = swap-cons d a x R 0 ∙ ap (λ (l : List A). a ∷ l) (swap_at d [] x R)
@@ -106,28 +106,28 @@ has_in (y ∷ ys) s e = either y s (λ q. here q) (λ d. there (has_in ys s (rw 
 -- ---- swap removal at any place
 
 module _ {A : Type 0} (d : A) (xs : List A) (p : ℕ) (l : p < length xs) where
-  swap-form : swapRemove d xs p ≡ take p xs ++ turned d (drop (suc p) xs)
+  swap-form : swap_remove d xs p ≡ take p xs ++ turned d (drop (suc p) xs)
   swap-form =
-      ap (λ (ys : List A). swapRemove d ys p) (split_at xs p d l)
-      ∙ subst (λ (k : ℕ). swapRemove d (take p xs ++ (get_or xs p d ∷ drop (suc p) xs)) k ≡ take p xs ++ turned d (drop (suc p) xs)) (length-take-le p xs (omega arith))
+      ap (λ (ys : List A). swap_remove d ys p) (split_at xs p d l)
+      ∙ subst (λ (k : ℕ). swap_remove d (take p xs ++ (get_or xs p d ∷ drop (suc p) xs)) k ≡ take p xs ++ turned d (drop (suc p) xs)) (length-take-le p xs (omega arith))
       (swap_at d (take p xs) (get_or xs p d) (drop (suc p) xs))
 
-  pub swap-old : {x : A} → In x (swapRemove d xs p) → In x xs
+  pub swap-old : {x : A} → In x (swap_remove d xs p) → In x xs
   swap-old {x} i =
       subst (λ (ys : List A). In x ys) (sym (split_at xs p d l))
       (⊎_elim (λ a. in_left _ a) (λ a. in_right (take p xs) (there (turned-in d (drop (suc p) xs) a))) (in-cases (take p xs) (subst (λ (ys : List A). In x ys) swap-form i)))
 
-  pub swap-cases : {x : A} → In x xs → (x ≡ get_or xs p d) ⊎ In x (swapRemove d xs p)
+  pub swap-cases : {x : A} → In x xs → (x ≡ get_or xs p d) ⊎ In x (swap_remove d xs p)
   swap-cases {x} i =
       ⊎_elim (λ a. inr (subst (λ (ys : List A). In x ys) (sym swap-form) (in_left _ a))) (λ a. behind a)
       (in-cases (take p xs) (subst (λ (ys : List A). In x ys) (split_at xs p d l) i))
     where
-      behind : In x (get_or xs p d ∷ drop (suc p) xs) → (x ≡ get_or xs p d) ⊎ In x (swapRemove d xs p)
+      behind : In x (get_or xs p d ∷ drop (suc p) xs) → (x ≡ get_or xs p d) ⊎ In x (swap_remove d xs p)
       behind (here e) = inl (sym e)
       behind (there j) = inr (subst (λ (ys : List A). In x ys) (sym swap-form) (in_right (take p xs) (in-turned d (drop (suc p) xs) j)))
 
   -- where no element is twice, the removed one is gone
-  pub swap-gone : ((q : ℕ) → q < length xs → get_or xs q d ≡ get_or xs p d → q ≡ p) → In (get_or xs p d) (swapRemove d xs p) → ⊥
+  pub swap-gone : ((q : ℕ) → q < length xs → get_or xs q d ≡ get_or xs p d → q ≡ p) → In (get_or xs p d) (swap_remove d xs p) → ⊥
   swap-gone h i =
       ⊎_elim
       (λ a.
@@ -146,16 +146,16 @@ module _ {A : Type 0} (d : A) (xs : List A) (p : ℕ) (l : p < length xs) where
 pub record Before {A : Type 0} (d : A) (xs : List A) (p r : ℕ) : Type 0 where
   pub at : ℕ
   pub lt : at < length xs
-  pub is : get_or (swapRemove d xs p) r d ≡ get_or xs at d
+  pub is : get_or (swap_remove d xs p) r d ≡ get_or xs at d
   pub other : at ≢ p
   pub how : (at ≡ r) ⊎ ((r ≡ p) × (at ≡ length xs - 1))
   pub small : r < length xs - 1
 
-pub swap-before : {A : Type 0} (d : A) (xs : List A) (p r : ℕ) → p < length xs → r < length (swapRemove d xs p) → Before d xs p r
+pub swap-before : {A : Type 0} (d : A) (xs : List A) (p r : ℕ) → p < length xs → r < length (swap_remove d xs p) → Before d xs p r
 swap-before {A} d xs p r l rl =
     let last = get_or xs (length xs - 1) d in
     let k : r < length xs - 1 = rw (length-take-le (length xs - 1) (set xs p (get_or xs (length xs - 1) d)) (rw (length-set xs p (get_or xs (length xs - 1) d)) (omega arith))) at rl in
-    let t : get_or (swapRemove d xs p) r d ≡ get_or (set xs p (get_or xs (length xs - 1) d)) r d = get_or-take (length xs - 1) (set xs p (get_or xs (length xs - 1) d)) r d k in
+    let t : get_or (swap_remove d xs p) r d ≡ get_or (set xs p (get_or xs (length xs - 1) d)) r d = get_or-take (length xs - 1) (set xs p (get_or xs (length xs - 1) d)) r d k in
     either r p
     (λ e.
     record {

@@ -12,10 +12,10 @@ use Rattle.list_in_table.proofs.Laws.{either}
 use Rattle.list_in_table.proofs.Same.{below}
 use Rattle.table_meaning.proofs.Tab.{get_d_beyond}
 use Rattle.def_state.specs.Plain.{top, empty, drop_last, last_of}
-use Rattle.def_state.specs.World.{Island, noIsland, World, islandAt}
-use Rattle.def_state.specs.Fields.{islands-set, free-set, island-set}
-use Rattle.def_state.specs.Membership.{newNumber, alloc-island}
-use Rattle.def_state.specs.Split.{new-island, newNumbers, newIslands}
+use Rattle.def_state.specs.World.{Island, absent_island, World, island_at}
+use Rattle.def_state.specs.Fields.{islands_set, free_set, island_set}
+use Rattle.def_state.specs.Membership.{new_number, alloc_island}
+use Rattle.def_state.specs.Split.{new_island, new_numbers, new_islands}
 use Rattle.theorem_split.specs.Graph.{In, here, there}
 use Rattle.theorem_split.specs.Fine.{Stack}
 use Rattle.theorem_split.specs.Parted.{Steady}
@@ -23,7 +23,7 @@ use Rattle.theorem_split.proofs.Member.{none_in, in-at, at_in}
 
 -- the number n is free, or was never used
 abbrev pub Spare : World → ℕ → Type 0
-Spare w n = In n w.free-islands ⊎ (length w.islands ≤ n)
+Spare w n = In n w.free_islands ⊎ (length w.islands ≤ n)
 
 -- the number n is taken for an island that is a, and nothing else changes
 pub record Taken (w v : World) (n : ℕ) (a : Island) : Type 0 where
@@ -31,20 +31,20 @@ pub record Taken (w v : World) (n : ℕ) (a : Island) : Type 0 where
   pub stack : Stack v
   pub used : Spare v n → ⊥
   pub fewer : (m : ℕ) → Spare v m → Spare w m
-  pub new : islandAt v n ≡ a
-  pub others : (j : ℕ) → j ≢ n → islandAt v j ≡ islandAt w j
+  pub new : island_at v n ≡ a
+  pub others : (j : ℕ) → j ≢ n → island_at v j ≡ island_at w j
   pub in_use : n < length v.islands
   pub longer : length w.islands ≤ length v.islands
 
-pub getD-grown : (is : List Island) (j : ℕ) → get_or (is ++ (noIsland ∷ [])) j noIsland ≡ get_or is j noIsland
-getD-grown is j =
-    below j (length is) (λ l. get_or-append is (noIsland ∷ []) noIsland j l)
+pub get_or-grown : (is : List Island) (j : ℕ) → get_or (is ++ (absent_island ∷ [])) j absent_island ≡ get_or is j absent_island
+get_or-grown is j =
+    below j (length is) (λ l. get_or-append is (absent_island ∷ []) absent_island j l)
     (λ l.
     either j (length is)
-    (λ e. get_or_at is noIsland [] noIsland j (sym e) ∙ sym (get_d_beyond is noIsland j l))
+    (λ e. get_or_at is absent_island [] absent_island j (sym e) ∙ sym (get_d_beyond is absent_island j l))
     (λ d.
-    get_d_beyond (is ++ (noIsland ∷ [])) noIsland j (let k = length-append is (noIsland ∷ []) in omega arith)
-    ∙ sym (get_d_beyond is noIsland j l)))
+    get_d_beyond (is ++ (absent_island ∷ [])) absent_island j (let k = length-append is (absent_island ∷ []) in omega arith)
+    ∙ sym (get_d_beyond is absent_island j l)))
 
 -- ---- a stack's last, and the rest
 
@@ -90,12 +90,12 @@ module _ (fs : List ℕ) (l : 0 < length fs) where
 
 module _ (w : World) (S : Stack w) (a : Island) where
   -- no number is free
-  grown : (fs : List ℕ) → w.free-islands ≡ fs → empty fs ≡ true → Taken w (island-set (islands-set w (w.islands ++ (noIsland ∷ []))) (length w.islands) a) (length w.islands) a
-  unfolding island-set
+  grown : (fs : List ℕ) → w.free_islands ≡ fs → empty fs ≡ true → Taken w (island_set (islands_set w (w.islands ++ (absent_island ∷ []))) (length w.islands) a) (length w.islands) a
+  unfolding island_set
   grown (f ∷ fs) e b = absurd (false≢true b)
   grown [] e b =
-      let k : length (w.islands ++ (noIsland ∷ [])) ≡ suc (length w.islands) = length-append w.islands (noIsland ∷ []) ∙ (omega arith) in
-      let K : length (set (w.islands ++ (noIsland ∷ [])) (length w.islands) a) ≡ suc (length w.islands) = length-set (w.islands ++ (noIsland ∷ [])) (length w.islands) a ∙ k in
+      let k : length (w.islands ++ (absent_island ∷ [])) ≡ suc (length w.islands) = length-append w.islands (absent_island ∷ []) ∙ (omega arith) in
+      let K : length (set (w.islands ++ (absent_island ∷ [])) (length w.islands) a) ≡ suc (length w.islands) = length-set (w.islands ++ (absent_island ∷ [])) (length w.islands) a ∙ k in
       record {
         spare = inr (omega arith);
         stack =
@@ -105,60 +105,60 @@ module _ (w : World) (S : Stack w) (a : Island) where
             };
         used = λ s. ⊎_elim (λ i. none_in (subst (λ (l : List ℕ). In (length w.islands) l) e i)) (λ l. (let x : suc (length w.islands) ≤ length w.islands = rw K at l in omega arith)) s;
         fewer = λ m s. ⊎_elim (λ i. inl i) (λ l. inr (let x : suc (length w.islands) ≤ m = rw K at l in omega arith)) s;
-        new = get_or-set_same (w.islands ++ (noIsland ∷ [])) (length w.islands) a noIsland (rw k (omega arith));
-        others = λ j d. get_or-set_other (w.islands ++ (noIsland ∷ [])) (length w.islands) j a noIsland d ∙ getD-grown w.islands j;
+        new = get_or-set_same (w.islands ++ (absent_island ∷ [])) (length w.islands) a absent_island (rw k (omega arith));
+        others = λ j d. get_or-set_other (w.islands ++ (absent_island ∷ [])) (length w.islands) j a absent_island d ∙ get_or-grown w.islands j;
         in_use = rw K (omega arith);
         longer = rw K (omega arith);
       }
 
   -- the last freed number
-  popped : 0 < length w.free-islands → Taken w (island-set (free-set w (drop_last w.free-islands)) (last_of top w.free-islands) a) (last_of top w.free-islands) a
-  unfolding island-set
+  popped : 0 < length w.free_islands → Taken w (island_set (free_set w (drop_last w.free_islands)) (last_of top w.free_islands) a) (last_of top w.free_islands) a
+  unfolding island_set
   popped l =
-      let nl : last_of top w.free-islands < length w.islands = S.below (last_of top w.free-islands) (last-in w.free-islands l) in
-      let K : length (set w.islands (last_of top w.free-islands) a) ≡ length w.islands = length-set w.islands (last_of top w.free-islands) a in
+      let nl : last_of top w.free_islands < length w.islands = S.below (last_of top w.free_islands) (last-in w.free_islands l) in
+      let K : length (set w.islands (last_of top w.free_islands) a) ≡ length w.islands = length-set w.islands (last_of top w.free_islands) a in
       record {
-        spare = inl (last-in w.free-islands l);
+        spare = inl (last-in w.free_islands l);
         stack =
             record {
-              below = λ m k. rw K (S.below m (rest_in w.free-islands l m k));
-              differ = rest-differ w.free-islands l S.differ;
+              below = λ m k. rw K (S.below m (rest_in w.free_islands l m k));
+              differ = rest-differ w.free_islands l S.differ;
             };
         used =
             λ s.
-            ⊎_elim (λ k. last-gone w.free-islands l S.differ k)
-            (λ k. (let x : length w.islands ≤ last_of top w.free-islands = rw K at k in omega arith))
+            ⊎_elim (λ k. last-gone w.free_islands l S.differ k)
+            (λ k. (let x : length w.islands ≤ last_of top w.free_islands = rw K at k in omega arith))
             s;
-        fewer = λ m s. ⊎_elim (λ k. inl (rest_in w.free-islands l m k)) (λ k. inr (rw K at k)) s;
-        new = get_or-set_same w.islands (last_of top w.free-islands) a noIsland nl;
-        others = λ j d. get_or-set_other w.islands (last_of top w.free-islands) j a noIsland d;
+        fewer = λ m s. ⊎_elim (λ k. inl (rest_in w.free_islands l m k)) (λ k. inr (rw K at k)) s;
+        new = get_or-set_same w.islands (last_of top w.free_islands) a absent_island nl;
+        others = λ j d. get_or-set_other w.islands (last_of top w.free_islands) j a absent_island d;
         in_use = rw K nl;
         longer = rw K (omega arith);
       }
 
-  pub takes : Taken w (island-set (alloc-island w) (newNumber w) a) (newNumber w) a
-  unfolding newNumber alloc-island
-  takes = cases w.free-islands refl
+  pub takes : Taken w (island_set (alloc_island w) (new_number w) a) (new_number w) a
+  unfolding new_number alloc_island
+  takes = cases w.free_islands refl
     where
-      cases : (fs : List ℕ) → w.free-islands ≡ fs → Taken w (island-set (alloc-island w) (newNumber w) a) (newNumber w) a
+      cases : (fs : List ℕ) → w.free_islands ≡ fs → Taken w (island_set (alloc_island w) (new_number w) a) (new_number w) a
       cases [] e =
-          let q : empty w.free-islands ≡ true = ap (λ (x : List ℕ). empty x) e in
-          rw q (grown w.free-islands refl q)
+          let q : empty w.free_islands ≡ true = ap (λ (x : List ℕ). empty x) e in
+          rw q (grown w.free_islands refl q)
       cases (f ∷ fs) e =
-          let q : empty w.free-islands ≡ false = ap (λ (x : List ℕ). empty x) e in
+          let q : empty w.free_islands ≡ false = ap (λ (x : List ℕ). empty x) e in
           rw q (popped (subst (λ (x : List ℕ). 0 < length x) (sym e) (omega arith)))
 
 -- k new islands: their numbers ns, and the state after
 pub record News (w v : World) (ns : List ℕ) (a : Island) : Type 0 where
   pub spare : (n : ℕ) → In n ns → Spare w n
   pub differ : (p q : ℕ) → p < length ns → q < length ns → get_or ns p top ≡ get_or ns q top → p ≡ q
-  pub new : (n : ℕ) → In n ns → islandAt v n ≡ a
-  pub others : (j : ℕ) → (In j ns → ⊥) → islandAt v j ≡ islandAt w j
+  pub new : (n : ℕ) → In n ns → island_at v n ≡ a
+  pub others : (j : ℕ) → (In j ns → ⊥) → island_at v j ≡ island_at w j
   pub in_use : (n : ℕ) → In n ns → n < length v.islands
   pub longer : length w.islands ≤ length v.islands
 
-pub length-numbers : (k : ℕ) (z : Bool) (w : World) → length (newNumbers k z w) ≡ k
-unfolding newNumbers
+pub length-numbers : (k : ℕ) (z : Bool) (w : World) → length (new_numbers k z w) ≡ k
+unfolding new_numbers
 length-numbers zero z w = refl
 length-numbers (suc k) z w = ap suc (length-numbers k z _)
 
@@ -177,8 +177,8 @@ module _ (w v u : World) (n : ℕ) (ns : List ℕ) (a : Island) (T : Taken w v n
   differs (suc p) zero l m e = absurd (fresh _ (in-at top ns p (omega arith)) e)
   differs (suc p) (suc q) l m e = ap suc (N.differ p q (omega arith) (omega arith) e)
 
-  new-at : (m : ℕ) → In m (n ∷ ns) → islandAt u m ≡ a
-  new-at m (here e) = N.others m (λ i. fresh m i (sym e)) ∙ subst (λ (x : ℕ). islandAt v x ≡ a) e T.new
+  new-at : (m : ℕ) → In m (n ∷ ns) → island_at u m ≡ a
+  new-at m (here e) = N.others m (λ i. fresh m i (sym e)) ∙ subst (λ (x : ℕ). island_at v x ≡ a) e T.new
   new-at m (there i) = N.new m i
 
   uses : (m : ℕ) → In m (n ∷ ns) → m < length u.islands
@@ -196,8 +196,8 @@ module _ (w v u : World) (n : ℕ) (ns : List ℕ) (a : Island) (T : Taken w v n
         longer = (let x = N.longer in let y = T.longer in omega arith);
       }
 
-pub news : (k : ℕ) (z : Bool) (w : World) → Stack w → News w (newIslands k z w) (newNumbers k z w) (new-island z)
-unfolding newNumbers newIslands
+pub news : (k : ℕ) (z : Bool) (w : World) → Stack w → News w (new_islands k z w) (new_numbers k z w) (new_island z)
+unfolding new_numbers new_islands
 news zero z w S =
     record {
       spare = λ n i. absurd (none_in i);
@@ -208,9 +208,9 @@ news zero z w S =
       longer = omega arith;
     }
 news (suc k) z w S =
-    let v = island-set (alloc-island w) (newNumber w) (new-island z) in
-    let T = takes w S (new-island z) in
-    one_more w v (newIslands k z v) (newNumber w) (newNumbers k z v) (new-island z) T (news k z v T.stack)
+    let v = island_set (alloc_island w) (new_number w) (new_island z) in
+    let T = takes w S (new_island z) in
+    one_more w v (new_islands k z v) (new_number w) (new_numbers k z v) (new_island z) T (news k z v T.stack)
 
 -- ---- what new islands do not change
 
@@ -219,7 +219,7 @@ steady a b =
     record {
       table = b.table ∙ a.table;
       tracked = b.tracked ∙ a.tracked;
-      joint-places = b.joint-places ∙ a.joint-places;
+      joint_places = b.joint_places ∙ a.joint_places;
       journal = b.journal ∙ a.journal;
       pending = b.pending ∙ a.pending;
       stamp = b.stamp ∙ a.stamp;
@@ -228,17 +228,17 @@ steady a b =
     }
 
 pub as_it_was : {w : World} → Steady w w
-as_it_was = record { table = refl; tracked = refl; joint-places = refl; journal = refl; pending = refl; stamp = refl; scanning = refl; touched = refl }
+as_it_was = record { table = refl; tracked = refl; joint_places = refl; journal = refl; pending = refl; stamp = refl; scanning = refl; touched = refl }
 
-pub take-steady : (w : World) (n : ℕ) (a : Island) → Steady w (island-set (alloc-island w) n a)
-unfolding island-set alloc-island
-take-steady w n a = go (empty w.free-islands)
+pub take-steady : (w : World) (n : ℕ) (a : Island) → Steady w (island_set (alloc_island w) n a)
+unfolding island_set alloc_island
+take-steady w n a = go (empty w.free_islands)
   where
-    go : (b : Bool) → Steady w (island-set (pick b (islands-set w (w.islands ++ (noIsland ∷ []))) (free-set w (drop_last w.free-islands))) n a)
-    go true = record { table = refl; tracked = refl; joint-places = refl; journal = refl; pending = refl; stamp = refl; scanning = refl; touched = refl }
-    go false = record { table = refl; tracked = refl; joint-places = refl; journal = refl; pending = refl; stamp = refl; scanning = refl; touched = refl }
+    go : (b : Bool) → Steady w (island_set (pick b (islands_set w (w.islands ++ (absent_island ∷ []))) (free_set w (drop_last w.free_islands))) n a)
+    go true = record { table = refl; tracked = refl; joint_places = refl; journal = refl; pending = refl; stamp = refl; scanning = refl; touched = refl }
+    go false = record { table = refl; tracked = refl; joint_places = refl; journal = refl; pending = refl; stamp = refl; scanning = refl; touched = refl }
 
-pub news-steady : (k : ℕ) (z : Bool) (w : World) → Steady w (newIslands k z w)
-unfolding newIslands
+pub news-steady : (k : ℕ) (z : Bool) (w : World) → Steady w (new_islands k z w)
+unfolding new_islands
 news-steady zero z w = as_it_was
-news-steady (suc k) z w = steady (take-steady w (newNumber w) (new-island z)) (news-steady k z (island-set (alloc-island w) (newNumber w) (new-island z)))
+news-steady (suc k) z w = steady (take-steady w (new_number w) (new_island z)) (news-steady k z (island_set (alloc_island w) (new_number w) (new_island z)))

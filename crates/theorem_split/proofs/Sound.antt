@@ -12,9 +12,9 @@ use Rattle.list_in_table.proofs.Order.{At, length-list, list_at, list-of}
 use Rattle.list_in_table.proofs.Pigeon.{pigeon}
 use Rattle.def_kinds.specs.declared.Sizes.{Sizes}
 use Rattle.def_state.specs.Plain.{top}
-use Rattle.def_state.specs.World.{Body, ContactLink, noContact, JointLink, noJoint, Island, noIsland, World, body_of, islandAt}
-use Rattle.table_meaning.specs.Layout.{Tables, tables, Extents, extents, members-in, contacts-in, joints-in, freed-in}
-use Rattle.table_meaning.specs.Decode.{flag, body_at, contactAt, jointAt, islandIn, decode, worldOf}
+use Rattle.def_state.specs.World.{Body, ContactLink, absent_contact, JointLink, absent_joint, Island, absent_island, World, body_of, island_at}
+use Rattle.table_meaning.specs.Layout.{Tables, tables, Extents, extents, members_in, contacts_in, joints_in, freed_in}
+use Rattle.table_meaning.specs.Decode.{flag, body_at, contact_at, joint_at, island_in, decode, world_of}
 use Rattle.table_meaning.specs.Rule.{Vacant, Filled, Live, Freed}
 use Rattle.table_meaning.specs.Sound.{Good, Sound}
 use Rattle.table_meaning.specs.Proper.{key_at}
@@ -36,7 +36,7 @@ module _ {n m : ℕ} {S : View} (R : Rules n m S) (i : ℕ) (l : i < m) where
   in-home s k =
       let r = at_in 0 k in
       let A = at_place r.place r.lt in
-      (subst (λ (x : ℕ). x < n) r.is A.lt, subst (λ (x : ℕ). S.home x ≡ i) r.is A.home-is)
+      (subst (λ (x : ℕ). x < n) r.is A.lt, subst (λ (x : ℕ). S.home x ≡ i) r.is A.home_is)
 
   one_place : (p q : ℕ) → p < length (list_of S i) → q < length (list_of S i) → get_or (list_of S i) p 0 ≡ get_or (list_of S i) q 0 → p ≡ q
   one_place p q pl ql e = sym (at_place p pl).place_is ∙ ap S.place e ∙ (at_place q ql).place_is
@@ -60,150 +60,150 @@ module _ (Z : Sizes) (X : Extents) (T : Tables) (G : Good Z X T) where
   abbrev w : World
   w = decode Z X T
 
-  abbrev R : Rules X.slots X.islands (members-in Z T)
-  R = G.members-wf.rules
+  abbrev R : Rules X.slots X.islands (members_in Z T)
+  R = G.members_wf.rules
 
-  abbrev C : Rules X.edges X.islands (contacts-in Z T)
-  C = G.contacts-wf.rules
+  abbrev C : Rules X.edges X.islands (contacts_in Z T)
+  C = G.contacts_wf.rules
 
-  abbrev J : Rules X.joints X.islands (joints-in Z T)
-  J = G.joints-wf.rules
+  abbrev J : Rules X.joints X.islands (joints_in Z T)
+  J = G.joints_wf.rules
 
-  abbrev Fr : Rules X.islands 1 (freed-in Z T)
-  Fr = G.freed-wf.rules
+  abbrev Fr : Rules X.islands 1 (freed_in Z T)
+  Fr = G.freed_wf.rules
 
   number : length w.islands ≡ X.islands
-  number = length-tabulate X.islands (islandIn Z T)
+  number = length-tabulate X.islands (island_in Z T)
 
   used : (i : ℕ) → i < length w.islands → i < X.islands
   used i l = rw number at l
 
-  bodies-at : (i : ℕ) → i < X.islands → (islandAt w i).bodies ≡ list_of (members-in Z T) i
+  bodies-at : (i : ℕ) → i < X.islands → (island_at w i).bodies ≡ list_of (members_in Z T) i
   bodies-at i l = ap (λ (a : Island). a.bodies) (island-at Z X T i l)
 
   -- a body of island i: its slot is in use, and its home is i
-  body-home : (i s : ℕ) → In s (islandAt w i).bodies → (i < X.islands) × (s < X.slots) × ((members-in Z T).home s ≡ i)
+  body-home : (i s : ℕ) → In s (island_at w i).bodies → (i < X.islands) × (s < X.slots) × ((members_in Z T).home s ≡ i)
   body-home i s m =
       let l = used i (in_use w i m) in
       let h = in-home R i l s (subst (λ (x : List ℕ). In s x) (bodies-at i l) m) in
       (l, h.0, h.1)
 
   -- what is not in use is empty
-  unused : (i : ℕ) → X.islands ≤ i → islandAt w i ≡ noIsland
-  unused i l = get_d_beyond w.islands noIsland i (rw number l)
+  unused : (i : ℕ) → X.islands ≤ i → island_at w i ≡ absent_island
+  unused i l = get_d_beyond w.islands absent_island i (rw number l)
 
-  few : (i : ℕ) → length (islandAt w i).bodies ≤ top
+  few : (i : ℕ) → length (island_at w i).bodies ≤ top
   few i =
-      below i X.islands (λ l. (let a = list-few R i l in let b = R.n-small in rw (bodies-at i l) (omega arith)))
+      below i X.islands (λ l. (let a = list-few R i l in let b = R.n_small in rw (bodies-at i l) (omega arith)))
       (λ l. rw (unused i l) (omega arith))
 
-  single : (i p q : ℕ) → p < length (islandAt w i).bodies → q < length (islandAt w i).bodies → get_or (islandAt w i).bodies p 0 ≡ get_or (islandAt w i).bodies q 0 → p ≡ q
+  single : (i p q : ℕ) → p < length (island_at w i).bodies → q < length (island_at w i).bodies → get_or (island_at w i).bodies p 0 ≡ get_or (island_at w i).bodies q 0 → p ≡ q
   single i p q pl ql e =
-      let l = used i (in_use w i (in-at 0 (islandAt w i).bodies p pl)) in
+      let l = used i (in_use w i (in-at 0 (island_at w i).bodies p pl)) in
       one_place R i l p q (rw (bodies-at i l) at pl) (rw (bodies-at i l) at ql) (rw (bodies-at i l) at e)
 
-  alive : (i s : ℕ) → In s (islandAt w i).bodies → (body_of w s).generation ≢ top
+  alive : (i s : ℕ) → In s (island_at w i).bodies → (body_of w s).generation ≢ top
   alive i s m e =
       let h = body-home i s m in
       let g : get_or T.slots (5 * s) 0 ≡ none = sym (ap (λ (b : Body). b.generation) (body-of Z X T s h.1)) ∙ e in
       let il = h.0 in
-      let hs : (members-in Z T).home s ≡ i = h.2 in
-      let ms = R.m-small in
-      ⊎_elim (λ (v : Vacant _ _ _ _ _). (let a : (members-in Z T).home s ≡ none = v.no_member in let b : i < none = omega arith in omega arith))
-      (λ (f : Filled _ _ _ _). (let a : get_or T.slots (5 * s) 0 < none = f.generation-lt in omega arith))
+      let hs : (members_in Z T).home s ≡ i = h.2 in
+      let ms = R.m_small in
+      ⊎_elim (λ (v : Vacant _ _ _ _ _). (let a : (members_in Z T).home s ≡ none = v.no_member in let b : i < none = omega arith in omega arith))
+      (λ (f : Filled _ _ _ _). (let a : get_or T.slots (5 * s) 0 < none = f.generation_lt in omega arith))
       (G.slot s h.1)
 
-  contacts-at : (i : ℕ) → i < X.islands → (islandAt w i).contact-links ≡ map (contactAt T.touches) (list_of (contacts-in Z T) i)
-  contacts-at i l = ap (λ (a : Island). a.contact-links) (island-at Z X T i l)
+  contacts-at : (i : ℕ) → i < X.islands → (island_at w i).contact_links ≡ map (contact_at T.touches) (list_of (contacts_in Z T) i)
+  contacts-at i l = ap (λ (a : Island). a.contact_links) (island-at Z X T i l)
 
   -- an edge of island i at place p: its home and its place
-  edge-home : (i p : ℕ) → p < length (islandAt w i).contact-links
-      → ((contacts-in Z T).home (get_or (islandAt w i).contact-links p noContact).edge_id ≡ i) × ((contacts-in Z T).place (get_or (islandAt w i).contact-links p noContact).edge_id ≡ p)
+  edge-home : (i p : ℕ) → p < length (island_at w i).contact_links
+      → ((contacts_in Z T).home (get_or (island_at w i).contact_links p absent_contact).edge_id ≡ i) × ((contacts_in Z T).place (get_or (island_at w i).contact_links p absent_contact).edge_id ≡ p)
   edge-home i p pl =
       below i X.islands
       (λ l.
-      let xs = list_of (contacts-in Z T) i in
-      let pl' : p < length xs = rw (contacts-at i l, length-map (list_of (contacts-in Z T) i) (contactAt T.touches)) at pl in
+      let xs = list_of (contacts_in Z T) i in
+      let pl' : p < length xs = rw (contacts-at i l, length-map (list_of (contacts_in Z T) i) (contact_at T.touches)) at pl in
       let A = at_place C i l p pl' in
-      let e : (get_or (islandAt w i).contact-links p noContact).edge_id ≡ get_or xs p 0 =
-      ap (λ (x : List ContactLink). (get_or x p noContact).edge_id) (contacts-at i l) ∙ ap (λ (c : ContactLink). c.edge_id) (map_at (contactAt T.touches) noContact xs p pl') in
-      rw e (A.home-is, A.place_is))
+      let e : (get_or (island_at w i).contact_links p absent_contact).edge_id ≡ get_or xs p 0 =
+      ap (λ (x : List ContactLink). (get_or x p absent_contact).edge_id) (contacts-at i l) ∙ ap (λ (c : ContactLink). c.edge_id) (map_at (contact_at T.touches) absent_contact xs p pl') in
+      rw e (A.home_is, A.place_is))
       (λ l. absurd (let z : p < 0 = rw (unused i l) at pl in omega arith))
 
-  freed-home : (n : ℕ) → In n w.free-islands → (n < X.islands) × ((freed-in Z T).home n ≡ 0)
+  freed-home : (n : ℕ) → In n w.free_islands → (n < X.islands) × ((freed_in Z T).home n ≡ 0)
   freed-home n m = in-home Fr 0 (omega arith) n m
 
-  free : (n : ℕ) → In n w.free-islands → islandAt w n ≡ noIsland
+  free : (n : ℕ) → In n w.free_islands → island_at w n ≡ absent_island
   free n m =
       let h = freed-home n m in
       let l = h.0 in
       island-at Z X T n l
-      ∙ ⊎_elim (λ (v : Live _ _ _). absurd (let a : (freed-in Z T).home n ≡ none = v.not-freed in let b : (freed-in Z T).home n ≡ 0 = h.1 in omega arith))
+      ∙ ⊎_elim (λ (v : Live _ _ _). absurd (let a : (freed_in Z T).home n ≡ none = v.not_freed in let b : (freed_in Z T).home n ≡ 0 = h.1 in omega arith))
       (λ (f : Freed _ _ _ _ _ _ _).
-      island-is (islandIn Z T n) noIsland (list-none R n l f.no_body)
-      (ap (map (contactAt T.touches)) (list-none C n l f.no-contact))
-      (ap (map _) (list-none J n l f.no-joint))
-      (λ k. record { count = f.no-removals k; denied = f.no-denial k; sleeping = flag (f.not-sleeping k) }))
+      island-is (island_in Z T n) absent_island (list-none R n l f.no_body)
+      (ap (map (contact_at T.touches)) (list-none C n l f.no_contact))
+      (ap (map _) (list-none J n l f.no_joint))
+      (λ k. record { count = f.no_removals k; denied = f.no_denial k; sleeping = flag (f.not_sleeping k) }))
       (G.island n l)
 
-  joints-at : (i : ℕ) → i < X.islands → (islandAt w i).joint-links ≡ map (jointAt T.keys) (list_of (joints-in Z T) i)
-  joints-at i l = ap (λ (a : Island). a.joint-links) (island-at Z X T i l)
+  joints-at : (i : ℕ) → i < X.islands → (island_at w i).joint_links ≡ map (joint_at T.keys) (list_of (joints_in Z T) i)
+  joints-at i l = ap (λ (a : Island). a.joint_links) (island-at Z X T i l)
 
   -- a joint link of island i at place p: the place of its key, whose home and place they are
   pub record KeyHome (i p : ℕ) : Type 0 where
     pub at : ℕ
     pub lt : at < X.joints
-    pub home : (joints-in Z T).home at ≡ i
-    pub place : (joints-in Z T).place at ≡ p
-    pub key : (get_or (islandAt w i).joint-links p noJoint).key ≡ key_at T at
+    pub home : (joints_in Z T).home at ≡ i
+    pub place : (joints_in Z T).place at ≡ p
+    pub key : (get_or (island_at w i).joint_links p absent_joint).key ≡ key_at T at
     pub used : i < X.islands
 
-  key-home : (i p : ℕ) → p < length (islandAt w i).joint-links → KeyHome i p
+  key-home : (i p : ℕ) → p < length (island_at w i).joint_links → KeyHome i p
   key-home i p pl =
       below i X.islands
       (λ l.
-      let xs = list_of (joints-in Z T) i in
-      let pl' : p < length xs = rw (joints-at i l, length-map (list_of (joints-in Z T) i) (jointAt T.keys)) at pl in
+      let xs = list_of (joints_in Z T) i in
+      let pl' : p < length xs = rw (joints-at i l, length-map (list_of (joints_in Z T) i) (joint_at T.keys)) at pl in
       let A = at_place J i l p pl' in
       record {
         at = get_or xs p 0;
         lt = A.lt;
-        home = A.home-is;
+        home = A.home_is;
         place = A.place_is;
-        key = ap (λ (x : List JointLink). (get_or x p noJoint).key) (joints-at i l) ∙ ap (λ (c : JointLink). c.key) (map_at (jointAt T.keys) noJoint xs p pl');
+        key = ap (λ (x : List JointLink). (get_or x p absent_joint).key) (joints-at i l) ∙ ap (λ (c : JointLink). c.key) (map_at (joint_at T.keys) absent_joint xs p pl');
         used = l;
       })
       (λ l. absurd (let z : p < 0 = rw (unused i l) at pl in omega arith))
 
-  keys : (i j p q : ℕ) → p < length (islandAt w i).joint-links → q < length (islandAt w j).joint-links
-      → (get_or (islandAt w i).joint-links p noJoint).key ≡ (get_or (islandAt w j).joint-links q noJoint).key
+  keys : (i j p q : ℕ) → p < length (island_at w i).joint_links → q < length (island_at w j).joint_links
+      → (get_or (island_at w i).joint_links p absent_joint).key ≡ (get_or (island_at w j).joint_links q absent_joint).key
       → (i ≡ j) × (p ≡ q)
   keys i j p q pl ql e =
       let a = key-home i p pl in
       let b = key-home j q ql in
-      let some : (k n : ℕ) → (joints-in Z T).home k ≡ n → n < X.islands → (joints-in Z T).home k ≢ none = λ k n h l z. (let s = J.m-small in omega arith) in
+      let some : (k n : ℕ) → (joints_in Z T).home k ≡ n → n < X.islands → (joints_in Z T).home k ≢ none = λ k n h l z. (let s = J.m_small in omega arith) in
       let o : a.at ≡ b.at =
-      ((good-is Z X T).0 G).0.key-once a.at b.at a.lt b.lt (some a.at i a.home a.used) (some b.at j b.home b.used) (sym a.key ∙ e ∙ b.key) in
-      (sym a.home ∙ ap (joints-in Z T).home o ∙ b.home, sym a.place ∙ ap (joints-in Z T).place o ∙ b.place)
+      ((good-is Z X T).0 G).0.key_once a.at b.at a.lt b.lt (some a.at i a.home a.used) (some b.at j b.home b.used) (sym a.key ∙ e ∙ b.key) in
+      (sym a.home ∙ ap (joints_in Z T).home o ∙ b.home, sym a.place ∙ ap (joints_in Z T).place o ∙ b.place)
 
   -- a number in use with no body is in the stack
-  is_free : (n : ℕ) → n < length w.islands → (islandAt w n).bodies ≡ [] → In n w.free-islands
+  is_free : (n : ℕ) → n < length w.islands → (island_at w n).bodies ≡ [] → In n w.free_islands
   is_free n nl e =
       let l = used n nl in
       ⊎_elim
       (λ (v : Live _ _ _).
       absurd
-      (let a : 0 < (members-in Z T).count n = v.some in
-      let b : length (list_of (members-in Z T) n) ≡ 0 = ap length (sym (bodies-at n l) ∙ e) in
+      (let a : 0 < (members_in Z T).count n = v.some in
+      let b : length (list_of (members_in Z T) n) ≡ 0 = ap length (sym (bodies-at n l) ∙ e) in
       let c = length-list R n l in
       omega arith))
       (λ (f : Freed _ _ _ _ _ _ _).
-      let h : (freed-in Z T).home n ≡ 0 = f.in_stack in
+      let h : (freed_in Z T).home n ≡ 0 = f.in_stack in
       let o : 0 < 1 = omega arith in
-      subst (λ (x : ℕ). In x w.free-islands) (list-of Fr 0 o n l h)
-      (in-at 0 (list_of (freed-in Z T) 0) ((freed-in Z T).place n)
-      (let p : (freed-in Z T).place n < (freed-in Z T).count ((freed-in Z T).home n) = (held_in Fr n 0 l o h).place-lt in
-      let q : (freed-in Z T).place n < (freed-in Z T).count 0 = rw h at p in
+      subst (λ (x : ℕ). In x w.free_islands) (list-of Fr 0 o n l h)
+      (in-at 0 (list_of (freed_in Z T) 0) ((freed_in Z T).place n)
+      (let p : (freed_in Z T).place n < (freed_in Z T).count ((freed_in Z T).home n) = (held_in Fr n 0 l o h).place_lt in
+      let q : (freed_in Z T).place n < (freed_in Z T).count 0 = rw h at p in
       let c = length-list Fr 0 o in
       omega arith)))
       (G.island n l)
@@ -213,7 +213,7 @@ module _ (Z : Sizes) (X : Extents) (T : Tables) (G : Good Z X T) where
       record {
         apart =
             record {
-              small = (let a = R.m-small in let b = number in omega arith);
+              small = (let a = R.m_small in let b = number in omega arith);
               once = λ i j s a b. sym (body-home i s a).2 ∙ (body-home j s b).2;
             };
         stack =
@@ -226,8 +226,8 @@ module _ (Z : Sizes) (X : Extents) (T : Tables) (G : Good Z X T) where
         alive = alive;
         edges =
             λ i j p q pl ql e. (
-              sym (edge-home i p pl).0 ∙ ap (contacts-in Z T).home e ∙ (edge-home j q ql).0,
-              sym (edge-home i p pl).1 ∙ ap (contacts-in Z T).place e ∙ (edge-home j q ql).1,
+              sym (edge-home i p pl).0 ∙ ap (contacts_in Z T).home e ∙ (edge-home j q ql).0,
+              sym (edge-home i p pl).1 ∙ ap (contacts_in Z T).place e ∙ (edge-home j q ql).1,
             );
         keys = keys;
         free = free;
@@ -235,6 +235,6 @@ module _ (Z : Sizes) (X : Extents) (T : Tables) (G : Good Z X T) where
         slots = λ i s m. rw (length-tabulate X.slots (body_at T.slots)) (body-home i s m).1;
       }
 
-pub sound-fine : (Z : Sizes) (t : List ℕ) → Sound Z t → Fine (worldOf Z t)
-unfolding worldOf
+pub sound-fine : (Z : Sizes) (t : List ℕ) → Sound Z t → Fine (world_of Z t)
+unfolding world_of
 sound-fine Z t S = good-fine Z (extents (tables Z t)) (tables Z t) S.good

@@ -8,7 +8,7 @@ use native.Mathlib.Omega.{arith}
 use lib.ListN.{length, get_or}
 use lib.Seq.{get_or_at, ext_get_or}
 use Rattle.list_in_table.proofs.Laws.{either}
-use Rattle.def_state.specs.Plain.{top, swapRemove}
+use Rattle.def_state.specs.Plain.{top, swap_remove}
 use Rattle.table_meaning.specs.Decode.{tabulate}
 use Rattle.table_meaning.proofs.Tab.{length-tabulate, get_d_tabulate}
 use Rattle.theorem_split.specs.Graph.{In, here, there}
@@ -17,7 +17,7 @@ use Rattle.theorem_split.proofs.Member.{none_in, in-at, at_in, in_left, in_right
 -- one place: the element at p of the list `base` goes to `to`
 pub record Move {A : Type 0} (d : A) (base p to : ℕ) (F G : ℕ → List A) : Type 0 where
   pub stay : to ≡ base → (j : ℕ) → G j ≡ F j
-  pub from : to ≢ base → G base ≡ swapRemove d (F base) p
+  pub from : to ≢ base → G base ≡ swap_remove d (F base) p
   pub into : to ≢ base → to ≢ top → G to ≡ F to ++ (get_or (F base) p d ∷ [])
   pub rest : (j : ℕ) → j ≢ base → j ≢ to → G j ≡ F j
 
@@ -49,10 +49,10 @@ module _ {A : Type 0} (d : A) (f : ℕ → A → ℕ) (base : ℕ) (e : ℕ → 
   at_last p F R q =
       ap (λ (l : List A). get_or l p d) (split-last p F R q) ∙ get_or_at (tabulate p e) (e p) R d p (length-tabulate p e)
 
-  gone : (p : ℕ) (F : ℕ → List A) (R : List A) → Stood (suc p) F R → swapRemove d (F base) p ≡ tabulate p e ++ turned d R
+  gone : (p : ℕ) (F : ℕ → List A) (R : List A) → Stood (suc p) F R → swap_remove d (F base) p ≡ tabulate p e ++ turned d R
   gone p F R q =
-      ap (λ (l : List A). swapRemove d l p) (split-last p F R q)
-      ∙ subst (λ (k : ℕ). swapRemove d (tabulate p e ++ (e p ∷ R)) k ≡ tabulate p e ++ turned d R) (length-tabulate p e) (swap_at d (tabulate p e) (e p) R)
+      ap (λ (l : List A). swap_remove d l p) (split-last p F R q)
+      ∙ subst (λ (k : ℕ). swap_remove d (tabulate p e ++ (e p ∷ R)) k ≡ tabulate p e ++ turned d R) (length-tabulate p e) (swap_at d (tabulate p e) (e p) R)
 
   -- the two ways that one place can go: to f p (e p)
   module _ {p : ℕ} {F E : ℕ → List A} (R : List A) (q : Stood (suc p) F R) (m : Move d base p (f p (get_or (F base) p d)) F E) where

@@ -1,6 +1,6 @@
 -- Elements of a list, the links of an island, and paths of links.
 use Rattle.std.specs.Prelude.{◌≡◌, ◌⊎◌, List, ◌∷◌, ◌++◌, map, ℕ}
-use Rattle.def_state.specs.World.{Handle, Key, ContactLink, JointLink, Island, World, islandAt, body-island}
+use Rattle.def_state.specs.World.{Handle, Key, ContactLink, JointLink, Island, World, island_at, body_island}
 
 -- x is an element of the list
 pub data In {A : Type 0} (x : A) : List A → Type 0 where
@@ -23,18 +23,18 @@ pub record Bond : Type 0 where
   pub body1 : Handle
   pub body2 : Handle
 
-abbrev pub ofContact : ContactLink → Bond
-ofContact l = record { name = edge l.edge_id; body1 = l.body1; body2 = l.body2 }
+abbrev pub of_contact : ContactLink → Bond
+of_contact l = record { name = edge l.edge_id; body1 = l.body1; body2 = l.body2 }
 
-abbrev pub ofJoint : JointLink → Bond
-ofJoint l = record { name = joint l.key; body1 = l.body1; body2 = l.body2 }
+abbrev pub of_joint : JointLink → Bond
+of_joint l = record { name = joint l.key; body1 = l.body1; body2 = l.body2 }
 
-abbrev pub bondsOf : Island → List Bond
-bondsOf a = map ofContact a.contact-links ++ map ofJoint a.joint-links
+abbrev pub bonds_of : Island → List Bond
+bonds_of a = map of_contact a.contact_links ++ map of_joint a.joint_links
 
 -- the link l stands in the lists of island i
 abbrev pub Stands : World → ℕ → Bond → Type 0
-Stands w i l = In l (bondsOf (islandAt w i))
+Stands w i l = In l (bonds_of (island_at w i))
 
 -- l joins a and b, in this order or the other
 abbrev pub Joins : Bond → Handle → Handle → Type 0
@@ -45,9 +45,9 @@ pub record Own (w : World) (i : ℕ) (a b : Handle) : Type 0 where
   pub link : Bond
   pub stands : Stands w i link
   pub joins : Joins link a b
-  pub first : body-island w a ≡ i
-  pub second : body-island w b ≡ i
+  pub first : body_island w a ≡ i
+  pub second : body_island w b ≡ i
 
 -- island j is connected by its own links, each between two of its bodies
 abbrev pub Whole : World → ℕ → Type 0
-Whole w j = (a b : Handle) → body-island w a ≡ j → body-island w b ≡ j → Path (Own w j) a b
+Whole w j = (a b : Handle) → body_island w a ≡ j → body_island w b ≡ j → Path (Own w j) a b

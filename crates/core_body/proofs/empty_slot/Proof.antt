@@ -4,7 +4,7 @@ use mathlib.Core.Logic.{◌≢◌, inl, inr}
 use Prim.Native.Nat.{◌+◌, ◌-◌, ◌*◌, ◌≤◌, ◌<◌}
 use borrow.Author.Tests.{eq-eqb, ne_eqb}
 use Rattle.list_in_table.specs.Rules.{none}
-use Rattle.table_meaning.specs.Decode.{bit_of, worldOf}
+use Rattle.table_meaning.specs.Decode.{bit_of, world_of}
 use Rattle.table_meaning.specs.Layout.{tables, extents}
 use Rattle.table_meaning.specs.Sound.{Sound}
 use Rattle.core_laws.specs.Steps.{handle, Grew, Stood}
@@ -35,7 +35,7 @@ returns c =
     let c5 = c2.before.before.before in
     let t-args = c5.args in
     let t-pre = c5.requires in
-    stood t-args.s none (t-args.g + 1) 0 0 0 t-pre.0 t-pre.1 (inl (record { no-generation = refl; not-fixed = refl; not-enabled = refl; not-sleeping = refl; no_member = t-pre.2 })) t-set5.ensures
+    stood t-args.s none (t-args.g + 1) 0 0 0 t-pre.0 t-pre.1 (inl (record { no_generation = refl; not_fixed = refl; not_enabled = refl; not_sleeping = refl; no_member = t-pre.2 })) t-set5.ensures
 
 pub empty-slot-spec : {M : Type 1} → statement M
 empty-slot-spec = tie.close (tie.spec mul-set5 add-set5 set5-requires same_length returns)

@@ -4,7 +4,7 @@ use mathlib.Core.Logic.{◌≢◌, inl, inr}
 use Prim.Native.Nat.{◌+◌, ◌-◌, ◌*◌, ◌≤◌, ◌<◌}
 use borrow.Author.Tests.{eq-eqb, ne_eqb}
 use Rattle.list_in_table.specs.Rules.{none}
-use Rattle.table_meaning.specs.Decode.{bit_of, worldOf}
+use Rattle.table_meaning.specs.Decode.{bit_of, world_of}
 use Rattle.table_meaning.specs.Layout.{tables, extents}
 use Rattle.table_meaning.specs.Sound.{Sound}
 use Rattle.core_laws.specs.Steps.{handle, Grew, Stood}
@@ -50,7 +50,7 @@ returns c =
     let t-args = c8.args in
     let t-pre = c8.requires in
     let P = rw (t-bit.ensures, t-bit2.ensures, t-bit3.ensures) at t-set5.ensures in
-    stood t-args.s t-args.g t-args.lowest (bit_of t-args.fixed) (bit_of t-args.enabled) (bit_of t-args.sleeping) t-pre.0 t-pre.1 (inr (record { generation-lt = t-pre.2; fixed-flag = bit_le t-args.fixed; enabled-flag = bit_le t-args.enabled; sleeping-flag = bit_le t-args.sleeping })) P
+    stood t-args.s t-args.g t-args.lowest (bit_of t-args.fixed) (bit_of t-args.enabled) (bit_of t-args.sleeping) t-pre.0 t-pre.1 (inr (record { generation_lt = t-pre.2; fixed_flag = bit_le t-args.fixed; enabled_flag = bit_le t-args.enabled; sleeping_flag = bit_le t-args.sleeping })) P
 
 pub fill_spec : {M : Type 1} → statement M
 fill_spec =

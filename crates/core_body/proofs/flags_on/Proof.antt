@@ -4,12 +4,12 @@ use mathlib.Core.Logic.{◌≢◌, inl, inr}
 use Prim.Native.Nat.{◌+◌, ◌-◌, ◌*◌, ◌≤◌, ◌<◌}
 use borrow.Author.Tests.{eq-eqb, ne_eqb, not-true, not-false}
 use Rattle.list_in_table.specs.Rules.{none}
-use Rattle.table_meaning.specs.Decode.{bit_of, worldOf}
+use Rattle.table_meaning.specs.Decode.{bit_of, world_of}
 use Rattle.table_meaning.specs.Layout.{tables, extents}
 use Rattle.table_meaning.specs.Sound.{Sound}
 use Rattle.core_laws.specs.Steps.{handle, Grew, Stood}
 use Rattle.core_laws.proofs.Then.{refused}
-use Rattle.core_laws.proofs.Names.{named-is}
+use Rattle.core_laws.proofs.Names.{named_is}
 use Rattle.core_laws.proofs.Put.{flags-no, flags-yes}
 use Rattle.def_state.specs.Bodies.{flags}
 use Rattle.def_kinds.specs.declared.Answer.TheVariants.{Nothing}
@@ -36,7 +36,7 @@ returns c =
     let c4 = c1.before.before.before in
     let t-args = c4.args in
     let t-pre = c4.requires in
-    refused _ Nothing t-pre (flags-no (handle t-args.s t-args.g) t-args.fixed t-args.enabled t-args.sleeping (worldOf t-args.z t-args.t.now) (sym t-is-named.ensures ∙ not-true _ t-if1.true))
+    refused _ Nothing t-pre (flags-no (handle t-args.s t-args.g) t-args.fixed t-args.enabled t-args.sleeping (world_of t-args.z t-args.t.now) (sym t-is-named.ensures ∙ not-true _ t-if1.true))
 
 mul-get : tie.Need-overflow-mul-get
 mul-get c = search rules
@@ -53,7 +53,7 @@ get-requires c κs =
     let c5 = c2.before.before.before in
     let t-args = c5.args in
     let t-pre = c5.requires in
-    (t-pre.long, (let n = (named-is t-args.z t-args.t.now t-args.s t-args.g (sym t-is-named.ensures ∙ not-false _ t-if1.false)).slot_lt in let m = t-pre.good.slots-le in omega arith))
+    (t-pre.long, (let n = (named_is t-args.z t-args.t.now t-args.s t-args.g (sym t-is-named.ensures ∙ not-false _ t-if1.false)).slot_lt in let m = t-pre.good.slots_le in omega arith))
 
 fill-requires : tie.Need-fill-requires
 fill-requires c κs =
@@ -64,8 +64,8 @@ fill-requires c κs =
     let c7 = c4.before.before.before in
     let t-args = c7.args in
     let t-pre = c7.requires in
-    let n = named-is t-args.z t-args.t.now t-args.s t-args.g (sym t-is-named.ensures ∙ not-false _ t-if1.false) in
-    (t-pre, n.slot_lt, (let d = n.not-absent in omega arith))
+    let n = named_is t-args.z t-args.t.now t-args.s t-args.g (sym t-is-named.ensures ∙ not-false _ t-if1.false) in
+    (t-pre, n.slot_lt, (let d = n.not_absent in omega arith))
 
 same-length-2 : tie.Need-same-length-2
 same-length-2 c = search rules
@@ -83,7 +83,7 @@ returns-2 c =
     let c10 = c7.before.before.before in
     let t-args = c10.args in
     let F = rw t-get.ensures.0 at t-fill.ensures in
-    flags-yes t-args.s t-args.g t-args.fixed t-args.enabled t-args.sleeping (sym t-is-named.ensures ∙ not-false _ t-if1.false) (named-is t-args.z t-args.t.now t-args.s t-args.g (sym t-is-named.ensures ∙ not-false _ t-if1.false)).slot_lt F
+    flags-yes t-args.s t-args.g t-args.fixed t-args.enabled t-args.sleeping (sym t-is-named.ensures ∙ not-false _ t-if1.false) (named_is t-args.z t-args.t.now t-args.s t-args.g (sym t-is-named.ensures ∙ not-false _ t-if1.false)).slot_lt F
 
 pub flags-on-spec : {M : Type 1} → statement M
 flags-on-spec =

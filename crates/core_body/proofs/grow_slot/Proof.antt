@@ -4,7 +4,7 @@ use mathlib.Core.Logic.{◌≢◌, inl, inr}
 use Prim.Native.Nat.{◌+◌, ◌-◌, ◌*◌, ◌≤◌, ◌<◌}
 use borrow.Author.Tests.{eq-eqb, ne_eqb}
 use Rattle.list_in_table.specs.Rules.{none}
-use Rattle.table_meaning.specs.Decode.{bit_of, worldOf}
+use Rattle.table_meaning.specs.Decode.{bit_of, world_of}
 use Rattle.table_meaning.specs.Layout.{tables, extents}
 use Rattle.table_meaning.specs.Sound.{Sound}
 use Rattle.core_laws.specs.Steps.{handle, Grew, Stood}

@@ -4,7 +4,7 @@ use mathlib.Core.Logic.{◌≢◌, inl, inr}
 use Prim.Native.Nat.{◌+◌, ◌-◌, ◌*◌, ◌≤◌, ◌<◌}
 use borrow.Author.Tests.{eq-eqb, ne_eqb}
 use Rattle.list_in_table.specs.Rules.{none}
-use Rattle.table_meaning.specs.Decode.{bit_of, worldOf}
+use Rattle.table_meaning.specs.Decode.{bit_of, world_of}
 use Rattle.table_meaning.specs.Layout.{tables, extents}
 use Rattle.table_meaning.specs.Sound.{Sound}
 use Rattle.core_laws.specs.Steps.{handle, Grew, Stood}
@@ -27,7 +27,7 @@ returns c =
     let c3 = c.before.before.before in
     let t-args = c3.args in
     let t-pre = c3.requires in
-    refused _ OverSize t-pre (put-far t-args.z t-args.s t-args.g t-args.fixed t-args.enabled t-args.sleeping (worldOf t-args.z t-args.t.now) (omega (arith, t-if1.true)))
+    refused _ OverSize t-pre (put-far t-args.z t-args.s t-args.g t-args.fixed t-args.enabled t-args.sleeping (world_of t-args.z t-args.t.now) (omega (arith, t-if1.true)))
 
 get-requires : tie.Need-get-requires
 get-requires c κs = search rules
@@ -49,7 +49,7 @@ returns-2 c =
     let t-pre = c7.requires in
     let v = body-none t-args.z t-args.t.now t-args.s (omega (arith, t-get.ensures.0, t-if2.true)) in
     let l : t-args.s < t-args.z.slots = omega (arith, t-if1.false) in
-    refused _ BadGeneration t-pre (put-absent t-args.z t-args.s t-args.g t-args.fixed t-args.enabled t-args.sleeping (worldOf t-args.z t-args.t.now) l (ap (λ (b : Body). b.generation) v) (let q = ap (λ (b : Body). b.lowest) v in omega arith) t-if3.true)
+    refused _ BadGeneration t-pre (put-absent t-args.z t-args.s t-args.g t-args.fixed t-args.enabled t-args.sleeping (world_of t-args.z t-args.t.now) l (ap (λ (b : Body). b.generation) v) (let q = ap (λ (b : Body). b.lowest) v in omega arith) t-if3.true)
 
 add-grow-slots : tie.Need-overflow-add-grow-slots
 add-grow-slots c = search rules
@@ -81,7 +81,7 @@ returns-3 c =
     let t-args = c15.args in
     let v = body-none t-args.z t-args.t.now t-args.s (omega (arith, t-get.ensures.0, t-if2.true)) in
     let l : t-args.s < t-args.z.slots = omega (arith, t-if1.false) in
-    put-new t-args.z t-args.t.now t-args.s t-args.g t-args.fixed t-args.enabled t-args.sleeping (omega (arith, t-get.ensures.0, t-if2.true)) (put-fits t-args.z t-args.s t-args.g t-args.fixed t-args.enabled t-args.sleeping (worldOf t-args.z t-args.t.now) l (ap (λ (b : Body). b.generation) v) (let q = ap (λ (b : Body). b.lowest) v in omega arith) t-if3.false) t-grow-slots.ensures t-fill.ensures
+    put-new t-args.z t-args.t.now t-args.s t-args.g t-args.fixed t-args.enabled t-args.sleeping (omega (arith, t-get.ensures.0, t-if2.true)) (put-fits t-args.z t-args.s t-args.g t-args.fixed t-args.enabled t-args.sleeping (world_of t-args.z t-args.t.now) l (ap (λ (b : Body). b.generation) v) (let q = ap (λ (b : Body). b.lowest) v in omega arith) t-if3.false) t-grow-slots.ensures t-fill.ensures
 
 mul-get : tie.Need-overflow-mul-get
 mul-get c = search rules
@@ -109,7 +109,7 @@ returns-4 c =
     let l : t-args.s < t-args.z.slots = omega (arith, t-if1.false) in
     let h : t-args.s < (extents (tables t-args.z t-args.t.now)).slots = omega (arith, t-get.ensures.0, t-if2.false) in
     let g = generation-word t-args.z t-args.t.now t-args.s h in
-    refused _ SlotTaken t-pre (put-taken t-args.z t-args.s t-args.g t-args.fixed t-args.enabled t-args.sleeping (worldOf t-args.z t-args.t.now) l (λ e. t-if4.true (t-get2.ensures.0 ∙ sym g ∙ e)))
+    refused _ SlotTaken t-pre (put-taken t-args.z t-args.s t-args.g t-args.fixed t-args.enabled t-args.sleeping (world_of t-args.z t-args.t.now) l (λ e. t-if4.true (t-get2.ensures.0 ∙ sym g ∙ e)))
 
 mul-get-2 : tie.Need-overflow-mul-get-2
 mul-get-2 c = search rules
@@ -146,7 +146,7 @@ returns-5 c =
     let g = generation-word t-args.z t-args.t.now t-args.s h in
     let v = g ∙ sym t-get2.ensures.0 ∙ t-if4.false in
     let w = lowest-word t-args.z t-args.t.now t-args.s h in
-    refused _ BadGeneration t-pre (put_low t-args.z t-args.s t-args.g t-args.fixed t-args.enabled t-args.sleeping (worldOf t-args.z t-args.t.now) l v (omega (arith, t-get3.ensures.0, t-if5.true)))
+    refused _ BadGeneration t-pre (put_low t-args.z t-args.s t-args.g t-args.fixed t-args.enabled t-args.sleeping (world_of t-args.z t-args.t.now) l v (omega (arith, t-get3.ensures.0, t-if5.true)))
 
 same-length-5 : tie.Need-same-length-5
 same-length-5 c = search rules
@@ -176,7 +176,7 @@ returns-6 c =
     let g = generation-word t-args.z t-args.t.now t-args.s h in
     let v = g ∙ sym t-get2.ensures.0 ∙ t-if4.false in
     let w = lowest-word t-args.z t-args.t.now t-args.s h in
-    refused _ BadGeneration t-pre (put-absent t-args.z t-args.s t-args.g t-args.fixed t-args.enabled t-args.sleeping (worldOf t-args.z t-args.t.now) l v (omega (arith, t-get3.ensures.0, t-if5.false)) t-if6.true)
+    refused _ BadGeneration t-pre (put-absent t-args.z t-args.s t-args.g t-args.fixed t-args.enabled t-args.sleeping (world_of t-args.z t-args.t.now) l v (omega (arith, t-get3.ensures.0, t-if5.false)) t-if6.true)
 
 fill-requires-2 : tie.Need-fill-requires-2
 fill-requires-2 c κs = search rules
@@ -212,7 +212,7 @@ returns-7 c =
     let v = g ∙ sym t-get2.ensures.0 ∙ t-if4.false in
     let w = lowest-word t-args.z t-args.t.now t-args.s h in
     let F = rw t-get3.ensures.0 at t-fill2.ensures in
-    put-old t-args.z t-args.t.now t-args.s t-args.g t-args.fixed t-args.enabled t-args.sleeping h (put-fits t-args.z t-args.s t-args.g t-args.fixed t-args.enabled t-args.sleeping (worldOf t-args.z t-args.t.now) l v (omega (arith, t-get3.ensures.0, t-if5.false)) t-if6.false) F
+    put-old t-args.z t-args.t.now t-args.s t-args.g t-args.fixed t-args.enabled t-args.sleeping h (put-fits t-args.z t-args.s t-args.g t-args.fixed t-args.enabled t-args.sleeping (world_of t-args.z t-args.t.now) l v (omega (arith, t-get3.ensures.0, t-if5.false)) t-if6.false) F
 
 pub put-on-spec : {M : Type 1} → statement M
 put-on-spec =

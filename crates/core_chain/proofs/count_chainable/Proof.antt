@@ -6,15 +6,15 @@ use mathlib.Core.Logic.{⊎_elim}
 use Prim.Native.Nat.{◌+◌, ◌-◌, ◌≤◌}
 use lib.ListN.{length}
 use borrow.Author.Rules.{rules}
-use Rattle.table_meaning.specs.Decode.{worldOf}
-use Rattle.core_laws.specs.Chaining.{handlesFrom}
+use Rattle.table_meaning.specs.Decode.{world_of}
+use Rattle.core_laws.specs.Chaining.{handles_from}
 use Rattle.def_state.specs.Chain.{chained}
 use Rattle.core_chain.proofs.Laws.{count-start, count_yes, count_no, count-end}
 use Rattle.core_chain.proofs.count_chainable.Statement.{statement}
 use Rattle.core_chain.proofs.count_chainable.Tie as tie
 
 abbrev invariant-loop : tie.invariant-loop
-invariant-loop t z list n c₀ k₀ c k = (k ≤ n) × (c ≤ k) × (c + length (chained (worldOf z t) (handlesFrom list k (n - k))) ≡ length (chained (worldOf z t) (handlesFrom list 0 n)))
+invariant-loop t z list n c₀ k₀ c k = (k ≤ n) × (c ≤ k) × (c + length (chained (world_of z t) (handles_from list k (n - k))) ≡ length (chained (world_of z t) (handles_from list 0 n)))
 
 abbrev decreases-loop : tie.decreases-loop
 decreases-loop t z list n c₀ k₀ c k = n - k
@@ -23,7 +23,7 @@ loop-holds : tie.Need-loop-init invariant-loop decreases-loop
 loop-holds c =
     let c2 = c.before.before in
     let t-args = c2.args in
-    (omega arith, omega arith, count-start (worldOf t-args.z t-args.t.now) t-args.list.now t-args.n)
+    (omega arith, omega arith, count-start (world_of t-args.z t-args.t.now) t-args.list.now t-args.n)
 
 cast-at : tie.Need-overflow-cast-at invariant-loop decreases-loop
 cast-at c = search rules
@@ -67,8 +67,8 @@ loop-again c =
     let t_loop = c5.loop in
     let c8 = c5.before.before.before in
     let t-args = c8.args in
-    ⊎_elim (λ w. (omega arith, omega arith, omega (arith, count_yes (worldOf t-args.z t-args.t.now) t-args.list.now t-args.n t_loop.k t_loop.found t_loop.invariant.2 (omega arith) (sym t-is-chainable.ensures ∙ w.0.taken))))
-    (λ w. (omega arith, omega arith, omega (arith, count_no (worldOf t-args.z t-args.t.now) t-args.list.now t-args.n t_loop.k t_loop.found t_loop.invariant.2 (omega arith) (sym t-is-chainable.ensures ∙ w.0.left))))
+    ⊎_elim (λ w. (omega arith, omega arith, omega (arith, count_yes (world_of t-args.z t-args.t.now) t-args.list.now t-args.n t_loop.k t_loop.found t_loop.invariant.2 (omega arith) (sym t-is-chainable.ensures ∙ w.0.taken))))
+    (λ w. (omega arith, omega arith, omega (arith, count_no (world_of t-args.z t-args.t.now) t-args.list.now t-args.n t_loop.k t_loop.found t_loop.invariant.2 (omega arith) (sym t-is-chainable.ensures ∙ w.0.left))))
     t-if1.branch
 
 returns : tie.Need-returns invariant-loop decreases-loop
@@ -77,7 +77,7 @@ returns c =
     let t_loop = c1.loop in
     let c4 = c1.before.before.before in
     let t-args = c4.args in
-    (count-end (worldOf t-args.z t-args.t.now) t-args.list.now t-args.n t_loop.k t_loop.found t_loop.invariant.2 (omega arith), omega arith)
+    (count-end (world_of t-args.z t-args.t.now) t-args.list.now t-args.n t_loop.k t_loop.found t_loop.invariant.2 (omega arith), omega arith)
 
 pub count-chainable-spec : {M : Type 1} → statement M
 count-chainable-spec =

@@ -33,7 +33,7 @@ get-requires c κs =
     let c3 = c1.before.before in
     let t-args = c3.args in
     let t-pre = c3.requires in
-    (t-pre.long, (let n = slot-in t-args.z t-args.t.now t-args.s t-args.g (sym t-is-named.ensures ∙ not-false _ t-if1.false) in let m = t-pre.good.slots-le in omega arith))
+    (t-pre.long, (let n = slot-in t-args.z t-args.t.now t-args.s t-args.g (sym t-is-named.ensures ∙ not-false _ t-if1.false) in let m = t-pre.good.slots_le in omega arith))
 
 returns-2 : tie.Need-returns-2
 returns-2 c =
@@ -63,7 +63,7 @@ get-requires-2 c κs =
     let c5 = c3.before.before in
     let t-args = c5.args in
     let t-pre = c5.requires in
-    (t-pre.long, (let n = slot-in t-args.z t-args.t.now t-args.s t-args.g (sym t-is-named.ensures ∙ not-false _ t-if1.false) in let m = t-pre.good.slots-le in omega arith))
+    (t-pre.long, (let n = slot-in t-args.z t-args.t.now t-args.s t-args.g (sym t-is-named.ensures ∙ not-false _ t-if1.false) in let m = t-pre.good.slots_le in omega arith))
 
 returns-3 : tie.Need-returns-3
 returns-3 c =

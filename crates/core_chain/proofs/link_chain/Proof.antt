@@ -48,7 +48,7 @@ link-next-requires : tie.Need-link-next-requires invariant-loop decreases-loop
 link-next-requires c κs =
     let c4 = c.before.before.before.before in
     let t_loop = c4.loop in
-    (t_loop.invariant.1.came.sound, (let o = t_loop.invariant.1.ordinal-le in omega arith))
+    (t_loop.invariant.1.came.sound, (let o = t_loop.invariant.1.ordinal_le in omega arith))
 
 add-k : tie.Need-overflow-add-k invariant-loop decreases-loop
 add-k c = search rules

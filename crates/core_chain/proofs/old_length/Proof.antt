@@ -4,14 +4,14 @@ use native.Mathlib.Omega.{arith}
 use mathlib.Core.Path.{◌≡◌, refl}
 use Prim.Native.Nat.{◌+◌, ◌-◌, ◌≤◌}
 use borrow.Author.Rules.{rules}
-use Rattle.table_meaning.specs.Decode.{worldOf}
-use Rattle.def_state.specs.Chain.{oldLength, chainLength}
+use Rattle.table_meaning.specs.Decode.{world_of}
+use Rattle.def_state.specs.Chain.{old_length, chain_length}
 use Rattle.core_chain.proofs.Laws.{old-start, old-end, old-missing, old-turn}
 use Rattle.core_chain.proofs.old_length.Statement.{statement}
 use Rattle.core_chain.proofs.old_length.Tie as tie
 
 abbrev invariant-loop : tie.invariant-loop
-invariant-loop t z high low capacity ordinal₀ ordinal = (ordinal ≤ z.joints) × (capacity ≡ z.joints) × (oldLength z (worldOf z t) high low ≡ ordinal + chainLength (worldOf z t) high low ordinal (z.joints - ordinal))
+invariant-loop t z high low capacity ordinal₀ ordinal = (ordinal ≤ z.joints) × (capacity ≡ z.joints) × (old_length z (world_of z t) high low ≡ ordinal + chain_length (world_of z t) high low ordinal (z.joints - ordinal))
 
 abbrev decreases-loop : tie.decreases-loop
 decreases-loop t z high low capacity ordinal₀ ordinal = z.joints - ordinal

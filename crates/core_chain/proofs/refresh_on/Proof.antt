@@ -1,4 +1,4 @@
--- `core_chain::refresh_on` meets its contract. Each way out is a case of `refresh-multibody-chain`, by the laws of `Laws`. Assumes nothing.
+-- `core_chain::refresh_on` meets its contract. Each way out is a case of `refresh_multibody_chain`, by the laws of `Laws`. Assumes nothing.
 use native.Mathlib.Omega.{arith}
 use borrow.Author.Rules.{rules}
 use Rattle.core_chain.proofs.Laws.{call_long, call-full, call-journal, call-done}

@@ -1,7 +1,7 @@
 use native.Mathlib.Omega.{arith}
 use mathlib.Core.Path.{sym, ◌∙◌}
 use borrow.Author.Tests.{not-true, not-false}
-use Rattle.core_laws.proofs.Names.{named-is}
+use Rattle.core_laws.proofs.Names.{named_is}
 use Rattle.core_laws.proofs.Unlink.{island-unnamed, island-named}
 use borrow.Author.Rules.{rules}
 use Rattle.core_contact.proofs.body_island.Statement.{statement}
@@ -31,8 +31,8 @@ home-requires c κs =
     let c3 = c1.before.before in
     let t-args = c3.args in
     let t-pre = c3.requires in
-    let n = (named-is t-args.z t-args.t.now t-args.s t-args.g (sym t-is-named.ensures ∙ not-false _ t-if1.false)).slot_lt in
-    let m = t-pre.good.slots-le in
+    let n = (named_is t-args.z t-args.t.now t-args.s t-args.g (sym t-is-named.ensures ∙ not-false _ t-if1.false)).slot_lt in
+    let m = t-pre.good.slots_le in
     (t-pre.long, omega arith)
 
 returns-2 : tie.Need-returns-2

@@ -1,4 +1,4 @@
-use Rattle.core_laws.proofs.OneContact.{contact-push-ready, contact-linked}
+use Rattle.core_laws.proofs.OneContact.{contact_push-ready, contact-linked}
 use borrow.Author.Rules.{rules}
 use Rattle.core_contact.proofs.push_contact.Statement.{statement}
 use Rattle.core_contact.proofs.push_contact.Tie as tie
@@ -12,7 +12,7 @@ push-requires c κs =
     let c2 = c.before.before in
     let t-args = c2.args in
     let t-pre = c2.requires in
-    (t-pre.0.long, contact-push-ready t-args.i t-args.e t-pre.0 t-pre.3.in_use t-pre.1 t-pre.2)
+    (t-pre.0.long, contact_push-ready t-args.i t-args.e t-pre.0 t-pre.3.in_use t-pre.1 t-pre.2)
 
 mul-set4 : tie.Need-overflow-mul-set4
 mul-set4 c = search rules

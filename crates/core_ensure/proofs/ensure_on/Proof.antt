@@ -4,7 +4,7 @@ use mathlib.Core.Logic.{◌≢◌, inl, inr}
 use Prim.Native.Nat.{◌+◌, ◌-◌, ◌*◌, ◌≤◌, ◌<◌}
 use borrow.Author.Tests.{eq-eqb, ne_eqb, not-true, not-false}
 use Rattle.list_in_table.specs.Rules.{none}
-use Rattle.table_meaning.specs.Decode.{bit_of, worldOf, flag}
+use Rattle.table_meaning.specs.Decode.{bit_of, world_of, flag}
 use Rattle.table_meaning.specs.Layout.{tables, extents}
 use Rattle.table_meaning.specs.Sound.{Sound}
 use Rattle.core_laws.specs.Steps.{handle}
@@ -60,7 +60,7 @@ found-island-requires c κs =
     let t-args = c9.args in
     let t-pre = c9.requires in
     let W = ready-waits t-args.s t-args.g t-pre (sym t-may-join.ensures ∙ not-false _ t-if1.false) (t-make-ready.ensures.steps t-pre) in
-    ((t-make-ready.ensures.steps t-pre).does.sound, W.slot_lt, W.no_member, W.not-vacant, W.number, W.sleeping-flag)
+    ((t-make-ready.ensures.steps t-pre).does.sound, W.slot_lt, W.no_member, W.not_vacant, W.number, W.sleeping_flag)
 
 same-length-2 : tie.Need-same-length-2
 same-length-2 c = search rules

@@ -4,11 +4,11 @@ use mathlib.Core.Logic.{◌≢◌, inl, inr}
 use Prim.Native.Nat.{◌+◌, ◌-◌, ◌*◌, ◌≤◌, ◌<◌}
 use borrow.Author.Tests.{eq-eqb, ne_eqb, not-true, not-false}
 use Rattle.list_in_table.specs.Rules.{none}
-use Rattle.table_meaning.specs.Decode.{bit_of, worldOf, flag}
+use Rattle.table_meaning.specs.Decode.{bit_of, world_of, flag}
 use Rattle.table_meaning.specs.Layout.{tables, extents}
 use Rattle.table_meaning.specs.Sound.{Sound}
 use Rattle.core_laws.specs.Steps.{handle}
-use Rattle.core_laws.proofs.Found.{found_lt, found-fits, found-remove-ready, found-push-ready, founded}
+use Rattle.core_laws.proofs.Found.{found_lt, found-fits, found-remove_ready, found-push_ready, founded}
 use borrow.Author.Rules.{rules}
 use Rattle.core_ensure.proofs.found_island.Statement.{statement}
 use Rattle.core_ensure.proofs.found_island.Tie as tie
@@ -38,7 +38,7 @@ remove-requires c κs =
     let t-last = c1.last in
     let c6 = c1.before.before.before.before.before in
     let t-pre = c6.requires in
-    (t-pre.0.long, found-remove-ready t-last.result t-pre.0 t-pre.4 t-last.ensures.0)
+    (t-pre.0.long, found-remove_ready t-last.result t-pre.0 t-pre.4 t-last.ensures.0)
 
 push-requires : tie.Need-push-requires
 push-requires c κs =
@@ -49,7 +49,7 @@ push-requires c κs =
     let c10 = c5.before.before.before.before.before in
     let t-args = c10.args in
     let t-pre = c10.requires in
-    (t-remove.ensures.same_length ∙ t-pre.0.long, found-push-ready t-last.result t-pre.0 t-pre.4 t-last.ensures.0 t-args.s t-pre.1 t-pre.2 t-remove.ensures)
+    (t-remove.ensures.same_length ∙ t-pre.0.long, found-push_ready t-last.result t-pre.0 t-pre.4 t-last.ensures.0 t-args.s t-pre.1 t-pre.2 t-remove.ensures)
 
 cast-set : tie.Need-overflow-cast-set
 cast-set c = search rules

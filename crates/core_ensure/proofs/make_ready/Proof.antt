@@ -4,7 +4,7 @@ use mathlib.Core.Logic.{◌≢◌, inl, inr}
 use Prim.Native.Nat.{◌+◌, ◌-◌, ◌*◌, ◌≤◌, ◌<◌}
 use borrow.Author.Tests.{eq-eqb, ne_eqb, not-true, not-false}
 use Rattle.list_in_table.specs.Rules.{none}
-use Rattle.table_meaning.specs.Decode.{bit_of, worldOf, flag}
+use Rattle.table_meaning.specs.Decode.{bit_of, world_of, flag}
 use Rattle.table_meaning.specs.Layout.{tables, extents}
 use Rattle.table_meaning.specs.Sound.{Sound}
 use Rattle.core_laws.specs.Steps.{handle}
@@ -55,7 +55,7 @@ same-length-2 c = search rules
 returns-2 : tie.Need-returns-2
 returns-2 c =
     let c2 = c.before.before in
-    let t-grow-island = c2.grow-island in
+    let t-grow-island = c2.grow_island in
     let c6 = c2.before.before.before.before in
     let t-if1 = c6.if1 in
     let c7 = c6.before in

@@ -4,11 +4,11 @@ use mathlib.Core.Logic.{◌≢◌, inl, inr}
 use Prim.Native.Nat.{◌+◌, ◌-◌, ◌*◌, ◌≤◌, ◌<◌}
 use borrow.Author.Tests.{eq-eqb, ne_eqb, not-true, not-false}
 use Rattle.list_in_table.specs.Rules.{none}
-use Rattle.table_meaning.specs.Decode.{bit_of, worldOf, flag}
+use Rattle.table_meaning.specs.Decode.{bit_of, world_of, flag}
 use Rattle.table_meaning.specs.Layout.{tables, extents}
 use Rattle.table_meaning.specs.Sound.{Sound}
 use Rattle.core_laws.specs.Steps.{handle}
-use Rattle.core_laws.proofs.Names.{named-is}
+use Rattle.core_laws.proofs.Names.{named_is}
 use Rattle.core_laws.proofs.Found.{join-no, join-fixed, join-disabled, join-home}
 use borrow.Author.Rules.{rules}
 use Rattle.core_ensure.proofs.may_join.Statement.{statement}
@@ -46,7 +46,7 @@ get-requires c κs =
     let c3 = c1.before.before in
     let t-args = c3.args in
     let t-pre = c3.requires in
-    let n = (named-is t-args.z t-args.t.now t-args.s t-args.g (sym t-is-named.ensures ∙ not-false _ t-if1.false)).slot_lt in let m = t-pre.good.slots-le in
+    let n = (named_is t-args.z t-args.t.now t-args.s t-args.g (sym t-is-named.ensures ∙ not-false _ t-if1.false)).slot_lt in let m = t-pre.good.slots_le in
     (t-pre.long, omega arith)
 
 returns-2 : tie.Need-returns-2
@@ -78,7 +78,7 @@ get-requires-2 c κs =
     let c5 = c3.before.before in
     let t-args = c5.args in
     let t-pre = c5.requires in
-    let n = (named-is t-args.z t-args.t.now t-args.s t-args.g (sym t-is-named.ensures ∙ not-false _ t-if1.false)).slot_lt in let m = t-pre.good.slots-le in
+    let n = (named_is t-args.z t-args.t.now t-args.s t-args.g (sym t-is-named.ensures ∙ not-false _ t-if1.false)).slot_lt in let m = t-pre.good.slots_le in
     (t-pre.long, omega arith)
 
 returns-3 : tie.Need-returns-3
@@ -108,7 +108,7 @@ home-requires c κs =
     let c7 = c5.before.before in
     let t-args = c7.args in
     let t-pre = c7.requires in
-    let n = (named-is t-args.z t-args.t.now t-args.s t-args.g (sym t-is-named.ensures ∙ not-false _ t-if1.false)).slot_lt in let m = t-pre.good.slots-le in
+    let n = (named_is t-args.z t-args.t.now t-args.s t-args.g (sym t-is-named.ensures ∙ not-false _ t-if1.false)).slot_lt in let m = t-pre.good.slots_le in
     (t-pre.long, omega arith)
 
 returns-4 : tie.Need-returns-4

@@ -6,14 +6,14 @@ use mathlib.Core.Path.{◌≡◌, sym, ◌∙◌, ap}
 use mathlib.Core.Logic.{◌≢◌, ⊎_elim}
 use Prim.Native.Nat.{ℕ, ◌+◌}
 use lib.ListN.{length}
-use Rattle.table_meaning.specs.Layout.{tables, scan-in}
-use Rattle.core_finish.specs.Restful.{restful, restful-to}
+use Rattle.table_meaning.specs.Layout.{tables, scan_in}
+use Rattle.core_finish.specs.Restful.{restful, restful_to}
 use Rattle.core_finish.proofs.Restful.{Stands, stands-last, stands-prev, restful-le, restful-all, restful-none, counted-yes, counted-no}
 use Rattle.core_finish.proofs.count_restful.Statement.{statement}
 use Rattle.core_finish.proofs.count_restful.Tie as tie
 
 abbrev invariant-loop : tie.invariant-loop
-invariant-loop t z left₀ e₀ found₀ left e found = (left ≢ 0 → Stands z t left e) × (length (restful-to z t left e) + found ≡ length (restful z t))
+invariant-loop t z left₀ e₀ found₀ left e found = (left ≢ 0 → Stands z t left e) × (length (restful_to z t left e) + found ≡ length (restful z t))
 
 abbrev decreases-loop : tie.decreases-loop
 decreases-loop t z left₀ e₀ found₀ left e found = left
@@ -79,7 +79,7 @@ cast-get c =
     let t_loop = c3.loop in
     let c7 = c3.before.before.before.before in
     let t-pre = c7.requires in
-    let a = (t_loop.invariant.0 (let z = t-loop-test.true in omega arith)).lt in let b = t-pre.good.scan-wf.rules.n-small in omega arith
+    let a = (t_loop.invariant.0 (let z = t-loop-test.true in omega arith)).lt in let b = t-pre.good.scan_wf.rules.n_small in omega arith
 
 mul-get : tie.Need-overflow-mul-get invariant-loop decreases-loop
 mul-get c =
@@ -89,7 +89,7 @@ mul-get c =
     let t_loop = c3.loop in
     let c7 = c3.before.before.before.before in
     let t-pre = c7.requires in
-    let a = (t_loop.invariant.0 (let z = t-loop-test.true in omega arith)).lt in let b = t-pre.good.scan-wf.rules.n-small in omega arith
+    let a = (t_loop.invariant.0 (let z = t-loop-test.true in omega arith)).lt in let b = t-pre.good.scan_wf.rules.n_small in omega arith
 
 add-get : tie.Need-overflow-add-get invariant-loop decreases-loop
 add-get c =
@@ -99,7 +99,7 @@ add-get c =
     let t_loop = c3.loop in
     let c7 = c3.before.before.before.before in
     let t-pre = c7.requires in
-    let a = (t_loop.invariant.0 (let z = t-loop-test.true in omega arith)).lt in let b = t-pre.good.scan-wf.rules.n-small in omega arith
+    let a = (t_loop.invariant.0 (let z = t-loop-test.true in omega arith)).lt in let b = t-pre.good.scan_wf.rules.n_small in omega arith
 
 get-requires : tie.Need-get-requires invariant-loop decreases-loop
 get-requires c κs =
@@ -109,7 +109,7 @@ get-requires c κs =
     let t_loop = c3.loop in
     let c7 = c3.before.before.before.before in
     let t-pre = c7.requires in
-    let a = (t_loop.invariant.0 (let z = t-loop-test.true in omega arith)).lt in let b = t-pre.good.islands-le in
+    let a = (t_loop.invariant.0 (let z = t-loop-test.true in omega arith)).lt in let b = t-pre.good.islands_le in
     (t-pre.long, omega arith)
 
 sub-left : tie.Need-overflow-sub-left invariant-loop decreases-loop
@@ -143,7 +143,7 @@ loop-again c =
     let d : t_loop.left ≢ 0 = (let z = t-loop-test.true in omega arith) in
     let e = t_loop.island in
     let n : 4 * e + 2 ≡ 0 + 4 * e + 2 = omega arith in
-    let g : t-get.result ≡ (scan-in Z (tables Z t)).prev e = t-get.ensures.0 ∙ ap (λ (j : ℕ). get_or (tables Z t).scan j 0) n in (
+    let g : t-get.result ≡ (scan_in Z (tables Z t)).prev e = t-get.ensures.0 ∙ ap (λ (j : ℕ). get_or (tables Z t).scan j 0) n in (
       rw g (stands-prev t-pre t_loop.left e (t_loop.invariant.0 d)),
       ⊎_elim
           (λ w. rw (g, w.1) (counted-yes Z t t_loop.left e t_loop.found d (sym t-may-sleep.ensures ∙ w.0.taken) t_loop.invariant.1))
@@ -161,7 +161,7 @@ returns c =
     let Z = t-args.z in
     let t = t-args.t.now in
     let z : t_loop.left ≡ 0 = omega (arith, t-loop-test.false) in
-    let a : length (restful-to Z t t_loop.left t_loop.island) ≡ 0 = ap (λ (n : ℕ). length (restful-to Z t n t_loop.island)) z ∙ ap length (restful-none Z t t_loop.island) in
+    let a : length (restful_to Z t t_loop.left t_loop.island) ≡ 0 = ap (λ (n : ℕ). length (restful_to Z t n t_loop.island)) z ∙ ap length (restful-none Z t t_loop.island) in
     let b = t_loop.invariant.1 in
     omega arith
 

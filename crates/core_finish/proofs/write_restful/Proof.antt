@@ -4,7 +4,7 @@ use lib.ListN.{get_or}
 use native.Mathlib.Omega.{arith}
 use mathlib.Core.Path.{◌≡◌, ◌∙◌, ap}
 use Prim.Native.Nat.{ℕ, ◌+◌}
-use Rattle.table_meaning.specs.Layout.{tables, scan-in}
+use Rattle.table_meaning.specs.Layout.{tables, scan_in}
 use Rattle.core_finish.proofs.Restful.{Written, written_start, written-room, written-more, written_all}
 use Rattle.core_finish.proofs.write_restful.Statement.{statement}
 use Rattle.core_finish.proofs.write_restful.Tie as tie
@@ -55,7 +55,7 @@ cast-get c =
     let t_loop = c5.loop in
     let c10 = c5.before.before.before.before.before in
     let t-pre = c10.requires in
-    let a = (t_loop.invariant.stands (let z = t-loop-test.true in omega arith)).lt in let b = t-pre.0.good.scan-wf.rules.n-small in omega arith
+    let a = (t_loop.invariant.stands (let z = t-loop-test.true in omega arith)).lt in let b = t-pre.0.good.scan_wf.rules.n_small in omega arith
 
 mul-get : tie.Need-overflow-mul-get invariant-loop decreases-loop
 mul-get c =
@@ -65,7 +65,7 @@ mul-get c =
     let t_loop = c5.loop in
     let c10 = c5.before.before.before.before.before in
     let t-pre = c10.requires in
-    let a = (t_loop.invariant.stands (let z = t-loop-test.true in omega arith)).lt in let b = t-pre.0.good.scan-wf.rules.n-small in omega arith
+    let a = (t_loop.invariant.stands (let z = t-loop-test.true in omega arith)).lt in let b = t-pre.0.good.scan_wf.rules.n_small in omega arith
 
 add-get : tie.Need-overflow-add-get invariant-loop decreases-loop
 add-get c =
@@ -75,7 +75,7 @@ add-get c =
     let t_loop = c5.loop in
     let c10 = c5.before.before.before.before.before in
     let t-pre = c10.requires in
-    let a = (t_loop.invariant.stands (let z = t-loop-test.true in omega arith)).lt in let b = t-pre.0.good.scan-wf.rules.n-small in omega arith
+    let a = (t_loop.invariant.stands (let z = t-loop-test.true in omega arith)).lt in let b = t-pre.0.good.scan_wf.rules.n_small in omega arith
 
 get-requires : tie.Need-get-requires invariant-loop decreases-loop
 get-requires c κs =
@@ -85,7 +85,7 @@ get-requires c κs =
     let t_loop = c5.loop in
     let c10 = c5.before.before.before.before.before in
     let t-pre = c10.requires in
-    let a = (t_loop.invariant.stands (let z = t-loop-test.true in omega arith)).lt in let b = t-pre.0.good.islands-le in
+    let a = (t_loop.invariant.stands (let z = t-loop-test.true in omega arith)).lt in let b = t-pre.0.good.islands_le in
     (t-pre.0.long, omega arith)
 
 sub-left : tie.Need-overflow-sub-left invariant-loop decreases-loop
@@ -116,7 +116,7 @@ loop-again c =
     let t = t-args.t.now in
     let e = t_loop.island in
     let n : 4 * e + 2 ≡ 0 + 4 * e + 2 = omega arith in
-    let g : t-get.result ≡ (scan-in Z (tables Z t)).prev e = t-get.ensures.0 ∙ ap (λ (j : ℕ). get_or (tables Z t).scan j 0) n in
+    let g : t-get.result ≡ (scan_in Z (tables Z t)).prev e = t-get.ensures.0 ∙ ap (λ (j : ℕ). get_or (tables Z t).scan j 0) n in
     rw g (written-more t-write-one.result t-pre.0 t_loop.invariant (let z = t-loop-test.true in omega arith) t-write-one.ensures)
 
 same_length : tie.Need-same-length invariant-loop decreases-loop

@@ -29,7 +29,7 @@ is-keyed-requires c κs =
     let t-get = c2.get in
     let c4 = c2.before.before in
     let t-pre = c4.requires in
-    (t-pre.long, omega (arith, t-get.ensures.0, t-pre.good.joints-le, t-loop-test.true))
+    (t-pre.long, omega (arith, t-get.ensures.0, t-pre.good.joints_le, t-loop-test.true))
 
 returns : tie.Need-returns invariant-loop decreases-loop
 returns c =

@@ -1,7 +1,7 @@
 -- `core_joint::grow_place` meets its contract. The words of the place are blanked, then it is freed: the law of `GrowPlace`. Assumes nothing.
 use native.Mathlib.Omega.{arith}
 use mathlib.Core.Path.{◌∙◌}
-use Rattle.core_laws.proofs.GrowPlace.{place-push-ready, place-grown}
+use Rattle.core_laws.proofs.GrowPlace.{place-push_ready, place-grown}
 use borrow.Author.Rules.{rules}
 use Rattle.core_joint.proofs.grow_place.Statement.{statement}
 use Rattle.core_joint.proofs.grow_place.Tie as tie
@@ -46,7 +46,7 @@ push-requires c κs =
     let c18 = c15.before.before.before in
     let t-args = c18.args in
     let t-pre = c18.requires in
-    (t-set44.ensures.same_length ∙ t-set43.ensures.same_length ∙ t-set42.ensures.same_length ∙ t-set4.ensures.same_length ∙ t-pre.0.long, place-push-ready t-args.p t-pre.0 t-pre.1 t-pre.2 t-pre.3 t-set4.ensures t-set42.ensures t-set43.ensures t-set44.ensures)
+    (t-set44.ensures.same_length ∙ t-set43.ensures.same_length ∙ t-set42.ensures.same_length ∙ t-set4.ensures.same_length ∙ t-pre.0.long, place-push_ready t-args.p t-pre.0 t-pre.1 t-pre.2 t-pre.3 t-set4.ensures t-set42.ensures t-set43.ensures t-set44.ensures)
 
 add-set : tie.Need-overflow-add-set
 add-set c = search rules

@@ -23,7 +23,7 @@ add-result c =
     let t-get = c2.get in
     let c4 = c2.before.before in
     let t-pre = c4.requires in
-    omega (arith, t-get.ensures.0, t-count.ensures.0, spare-le t-pre, t-pre.good.joints-le, t-struct-known)
+    omega (arith, t-get.ensures.0, t-count.ensures.0, spare-le t-pre, t-pre.good.joints_le, t-struct-known)
 
 returns : tie.Need-returns
 returns c =

@@ -44,7 +44,7 @@ set4-requires c κs =
     let t-last = c9.last in
     let c12 = c9.before.before.before in
     let t-pre = c12.requires in
-    (t-push.ensures.same_length ∙ t-remove.ensures.same_length ∙ t-pre.0.long, (let h = (spare-last t-last.result t-pre.0 t-pre.1 t-last.ensures.0).room-lt in omega arith))
+    (t-push.ensures.same_length ∙ t-remove.ensures.same_length ∙ t-pre.0.long, (let h = (spare-last t-last.result t-pre.0 t-pre.1 t-last.ensures.0).room_lt in omega arith))
 
 cast-set4-2 : tie.Need-overflow-cast-set4-2
 cast-set4-2 c = search rules
@@ -67,7 +67,7 @@ set4-requires-2 c κs =
     let t-last = c13.last in
     let c16 = c13.before.before.before in
     let t-pre = c16.requires in
-    (t-set4.ensures.same_length ∙ t-push.ensures.same_length ∙ t-remove.ensures.same_length ∙ t-pre.0.long, (let h = (spare-last t-last.result t-pre.0 t-pre.1 t-last.ensures.0).room-lt in omega arith))
+    (t-set4.ensures.same_length ∙ t-push.ensures.same_length ∙ t-remove.ensures.same_length ∙ t-pre.0.long, (let h = (spare-last t-last.result t-pre.0 t-pre.1 t-last.ensures.0).room_lt in omega arith))
 
 same_length : tie.Need-same-length
 same_length c = search rules

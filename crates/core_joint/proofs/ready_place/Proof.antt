@@ -43,7 +43,7 @@ same-length-2 c = search rules
 returns-2 : tie.Need-returns-2
 returns-2 c =
     let c2 = c.before.before in
-    let t-grow-place = c2.grow-place in
+    let t-grow-place = c2.grow_place in
     let c6 = c2.before.before.before.before in
     let t-if1 = c6.if1 in
     let c7 = c6.before in

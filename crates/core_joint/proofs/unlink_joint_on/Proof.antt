@@ -1,4 +1,4 @@
--- `core_joint::unlink_joint_on` meets its contract. Each way out is a case of `unlink-joint`, by the laws of `Unlink`. Assumes nothing.
+-- `core_joint::unlink_joint_on` meets its contract. Each way out is a case of `unlink_joint`, by the laws of `Unlink`. Assumes nothing.
 use native.Mathlib.Omega.{arith}
 use mathlib.Core.Path.{sym, ◌∙◌, ap}
 use mathlib.Core.List.{List}
@@ -46,7 +46,7 @@ take-joint-requires c κs =
     let c8 = c5.before.before.before in
     let t-pre = c8.requires in
     let A = (found_at t-pre.0 t-find-place.ensures t-if1.false) in
-    (sound-loose t-pre.0, A.place-lt, A.keyed.linked)
+    (sound-loose t-pre.0, A.place_lt, A.keyed.linked)
 
 same-length-2 : tie.Need-same-length-2
 same-length-2 c = search rules
@@ -165,7 +165,7 @@ take-joint-requires-2 c κs =
     let c20 = c17.before.before.before in
     let t-pre = c20.requires in
     let A = (found_at t-pre.0 t-find-place.ensures t-if1.false) in
-    (sound-loose t-pre.0, A.place-lt, A.keyed.linked)
+    (sound-loose t-pre.0, A.place_lt, A.keyed.linked)
 
 push-entry-requires : tie.Need-push-entry-requires
 push-entry-requires c κs =

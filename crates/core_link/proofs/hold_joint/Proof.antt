@@ -5,14 +5,14 @@ use mathlib.Core.List.{List}
 use Prim.Native.Nat.{ℕ, ◌+◌, ◌-◌, ◌*◌, ◌≤◌, ◌<◌}
 use Rattle.list_in_table.specs.Rules.{none}
 use Rattle.def_state.specs.World.{World}
-use Rattle.def_state.specs.Links.{jointHome, jointRoom, merge-islands}
-use Rattle.table_meaning.specs.Decode.{key_of, worldOf}
+use Rattle.def_state.specs.Links.{joint_home, joint_room, merge_islands}
+use Rattle.table_meaning.specs.Decode.{key_of, world_of}
 use Rattle.table_meaning.specs.Layout.{tables, Extents, extents}
 use Rattle.def_kinds.specs.declared.Answer.TheVariants.{Nothing, JointsFull}
 use Rattle.core_laws.specs.Steps.{handle}
 use Rattle.core_laws.proofs.Then.{refused}
 use Rattle.core_laws.proofs.Unlink.{island-lives}
-use Rattle.core_laws.proofs.JointKeys.{joint-home-none, home-unlinked, joint-home, joint-home-lt, found_none, found_at}
+use Rattle.core_laws.proofs.JointKeys.{joint-home_none, home-unlinked, joint-home, joint-home_lt, found_none, found_at}
 use Rattle.core_laws.proofs.GrowPlace.{room-place, place-is-ready}
 use Rattle.core_laws.proofs.Link.{target_none, target-second, target_first, target-both, joint-old, joint-loose, joint-full, place-held, merged-room}
 use Rattle.core_laws.proofs.LinkJoint.{ready-lives, ready-home, merge-unlinked, joint-second, joint-first, joint-both}

@@ -3,14 +3,14 @@ use mathlib.Core.Path.{◌≡◌, refl, sym, ◌∙◌, ap, subst}
 use mathlib.Core.Logic.{◌⊎◌, ◌≢◌, inl, inr}
 use Prim.Native.Nat.{ℕ, ◌+◌, ◌-◌, ◌*◌, ◌≤◌, ◌<◌}
 use Rattle.list_in_table.specs.Rules.{none}
-use Rattle.table_meaning.specs.Decode.{worldOf}
+use Rattle.table_meaning.specs.Decode.{world_of}
 use Rattle.table_meaning.specs.Layout.{tables, Extents, extents}
 use Rattle.def_kinds.specs.declared.Answer.TheVariants.{OverSize}
 use Rattle.core_laws.specs.Steps.{handle}
 use Rattle.core_laws.proofs.Then.{refused}
 use Rattle.core_laws.proofs.Unlink.{island-lives}
 use Rattle.core_laws.proofs.Link.{link-over}
-use Rattle.core_laws.proofs.LinkContact.{edge-lt, contact-old, contact-loose, contact-second, contact-first, contact-both}
+use Rattle.core_laws.proofs.LinkContact.{edge_lt, contact-old, contact-loose, contact-second, contact-first, contact-both}
 use borrow.Author.Rules.{rules}
 use Rattle.core_link.proofs.link_contact_on.Statement.{statement}
 use Rattle.core_link.proofs.link_contact_on.Tie as tie
@@ -28,7 +28,7 @@ returns c =
     let c3 = c.before.before.before in
     let t-args = c3.args in
     let t-pre = c3.requires in
-    refused _ OverSize t-pre (link-over t-args.z t-args.e (handle t-args.s1 t-args.g1) (handle t-args.s2 t-args.g2) (worldOf t-args.z t-args.t.now) (omega (arith, t-if1.true)))
+    refused _ OverSize t-pre (link-over t-args.z t-args.e (handle t-args.s1 t-args.g1) (handle t-args.s2 t-args.g2) (world_of t-args.z t-args.t.now) (omega (arith, t-if1.true)))
 
 add-grow-edges : tie.Need-overflow-add-grow-edges
 add-grow-edges c = search rules
@@ -72,7 +72,7 @@ returns-3 c =
     let c2 = c1.before in
     let t-body-island2 = c2.body-island2 in
     let c4 = c2.before.before in
-    let t-body-island = c4.body-island in
+    let t-body-island = c4.body_island in
     let c6 = c4.before.before in
     let t-if2 = c6.if2 in
     let c7 = c6.before in
@@ -101,7 +101,7 @@ push-contact-requires c κs =
     let t-if1 = c14.if1 in
     let c17 = c14.before.before.before in
     let t-args = c17.args in
-    (t-grow-edges.ensures.does.sound, edge-lt t-args.e t-args.s1 t-args.g1 t-args.s2 t-args.g2 (omega (arith, t-if1.false)) t-grow-edges.ensures, (sym t-home.ensures.0 ∙ t-if2.false), (rw (sym t-body-island2.ensures) at (island-lives t-args.s2 t-args.g2 t-grow-edges.ensures.does.sound (λ q. t-if4.false (t-body-island2.ensures ∙ q)))))
+    (t-grow-edges.ensures.does.sound, edge_lt t-args.e t-args.s1 t-args.g1 t-args.s2 t-args.g2 (omega (arith, t-if1.false)) t-grow-edges.ensures, (sym t-home.ensures.0 ∙ t-if2.false), (rw (sym t-body-island2.ensures) at (island-lives t-args.s2 t-args.g2 t-grow-edges.ensures.does.sound (λ q. t-if4.false (t-body-island2.ensures ∙ q)))))
 
 same-length-3 : tie.Need-same-length-3
 same-length-3 c = search rules
@@ -117,7 +117,7 @@ returns-4 c =
     let c6 = c5.before in
     let t-body-island2 = c6.body-island2 in
     let c8 = c6.before.before in
-    let t-body-island = c8.body-island in
+    let t-body-island = c8.body_island in
     let c10 = c8.before.before in
     let t-if2 = c10.if2 in
     let c11 = c10.before in
@@ -135,7 +135,7 @@ push-contact-requires-2 c κs =
     let c2 = c.before.before in
     let t-if3 = c2.if3 in
     let c5 = c2.before.before.before in
-    let t-body-island = c5.body-island in
+    let t-body-island = c5.body_island in
     let c7 = c5.before.before in
     let t-if2 = c7.if2 in
     let c8 = c7.before in
@@ -146,7 +146,7 @@ push-contact-requires-2 c κs =
     let t-if1 = c14.if1 in
     let c17 = c14.before.before.before in
     let t-args = c17.args in
-    (t-grow-edges.ensures.does.sound, edge-lt t-args.e t-args.s1 t-args.g1 t-args.s2 t-args.g2 (omega (arith, t-if1.false)) t-grow-edges.ensures, (sym t-home.ensures.0 ∙ t-if2.false), (rw (sym t-body-island.ensures) at (island-lives t-args.s1 t-args.g1 t-grow-edges.ensures.does.sound (λ q. t-if3.false (t-body-island.ensures ∙ q)))))
+    (t-grow-edges.ensures.does.sound, edge_lt t-args.e t-args.s1 t-args.g1 t-args.s2 t-args.g2 (omega (arith, t-if1.false)) t-grow-edges.ensures, (sym t-home.ensures.0 ∙ t-if2.false), (rw (sym t-body-island.ensures) at (island-lives t-args.s1 t-args.g1 t-grow-edges.ensures.does.sound (λ q. t-if3.false (t-body-island.ensures ∙ q)))))
 
 same-length-4 : tie.Need-same-length-4
 same-length-4 c = search rules
@@ -162,7 +162,7 @@ returns-5 c =
     let c6 = c5.before in
     let t-body-island2 = c6.body-island2 in
     let c8 = c6.before.before in
-    let t-body-island = c8.body-island in
+    let t-body-island = c8.body_island in
     let c10 = c8.before.before in
     let t-if2 = c10.if2 in
     let c11 = c10.before in
@@ -184,19 +184,19 @@ merge-islands-requires c κs =
     let c3 = c2.before in
     let t-body-island2 = c3.body-island2 in
     let c5 = c3.before.before in
-    let t-body-island = c5.body-island in
+    let t-body-island = c5.body_island in
     let c12 = c5.before.before.before.before.before.before.before in
     let t-grow-edges = c12.grow-edges in
     let c17 = c12.before.before.before.before.before in
     let t-args = c17.args in
     let A = (rw (sym t-body-island.ensures) at (island-lives t-args.s1 t-args.g1 t-grow-edges.ensures.does.sound (λ q. t-if3.false (t-body-island.ensures ∙ q)))) in
     let B = (rw (sym t-body-island2.ensures) at (island-lives t-args.s2 t-args.g2 t-grow-edges.ensures.does.sound (λ q. t-if5.false (t-body-island2.ensures ∙ q)))) in
-    record { sound = t-grow-edges.ensures.does.sound; a_lt = A.in_use; b_lt = B.in_use; a-live = A.some; b-live = B.some }
+    record { sound = t-grow-edges.ensures.does.sound; a_lt = A.in_use; b_lt = B.in_use; a_live = A.some; b_live = B.some }
 
 push-contact-requires-3 : tie.Need-push-contact-requires-3
 push-contact-requires-3 c κs =
     let c3 = c.before.before.before in
-    let t-merge-islands = c3.merge-islands in
+    let t-merge-islands = c3.merge_islands in
     let c11 = c3.before.before.before.before.before.before.before.before in
     let t-if2 = c11.if2 in
     let c12 = c11.before in
@@ -208,7 +208,7 @@ push-contact-requires-3 c κs =
     let c21 = c18.before.before.before in
     let t-args = c21.args in
     let M = t-merge-islands.ensures in
-    (M.steps.does.sound, subst (λ (x : ℕ). t-args.e < x) (sym (ap (λ (X : Extents). X.edges) M.stays.extents-same)) (edge-lt t-args.e t-args.s1 t-args.g1 t-args.s2 t-args.g2 (omega (arith, t-if1.false)) t-grow-edges.ensures), M.stays.edge_none t-args.e (edge-lt t-args.e t-args.s1 t-args.g1 t-args.s2 t-args.g2 (omega (arith, t-if1.false)) t-grow-edges.ensures) (sym t-home.ensures.0 ∙ t-if2.false), record { in_use = M.in_use; some = M.live })
+    (M.steps.does.sound, subst (λ (x : ℕ). t-args.e < x) (sym (ap (λ (X : Extents). X.edges) M.stays.extents_same)) (edge_lt t-args.e t-args.s1 t-args.g1 t-args.s2 t-args.g2 (omega (arith, t-if1.false)) t-grow-edges.ensures), M.stays.edge_none t-args.e (edge_lt t-args.e t-args.s1 t-args.g1 t-args.s2 t-args.g2 (omega (arith, t-if1.false)) t-grow-edges.ensures) (sym t-home.ensures.0 ∙ t-if2.false), record { in_use = M.in_use; some = M.live })
 
 same-length-5 : tie.Need-same-length-5
 same-length-5 c =
@@ -223,7 +223,7 @@ returns-6 c =
     let c2 = c.before.before in
     let t-push-contact3 = c2.push-contact3 in
     let c6 = c2.before.before.before.before in
-    let t-merge-islands = c6.merge-islands in
+    let t-merge-islands = c6.merge_islands in
     let c8 = c6.before.before in
     let t-if5 = c8.if5 in
     let c9 = c8.before in
@@ -231,7 +231,7 @@ returns-6 c =
     let c10 = c9.before in
     let t-body-island2 = c10.body-island2 in
     let c12 = c10.before.before in
-    let t-body-island = c12.body-island in
+    let t-body-island = c12.body_island in
     let c14 = c12.before.before in
     let t-if2 = c14.if2 in
     let c15 = c14.before in
@@ -243,7 +243,7 @@ returns-6 c =
     let c24 = c21.before.before.before in
     let t-args = c24.args in
     let M = t-merge-islands.ensures in
-    let d : t-merge-islands.result ≢ none = (λ q. (let a = M.in_use in let b = M.steps.does.sound.good.members-wf.rules.m-small in omega arith)) in
+    let d : t-merge-islands.result ≢ none = (λ q. (let a = M.in_use in let b = M.steps.does.sound.good.members_wf.rules.m_small in omega arith)) in
     contact-both t-args.e t-args.s1 t-args.g1 t-args.s2 t-args.g2 (omega (arith, t-if1.false)) t-grow-edges.ensures (sym t-home.ensures.0 ∙ t-if2.false) t-body-island.result t-body-island2.result t-merge-islands.result t-body-island.ensures t-if3.false t-body-island2.ensures t-if5.false d M t-push-contact3.ensures
 
 pub link-contact-on-spec : {M : Type 1} → statement M

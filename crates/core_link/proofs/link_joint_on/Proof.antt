@@ -5,14 +5,14 @@ use mathlib.Core.List.{List}
 use Prim.Native.Nat.{ℕ, ◌+◌, ◌-◌, ◌*◌, ◌≤◌, ◌<◌}
 use Rattle.list_in_table.specs.Rules.{none}
 use Rattle.def_state.specs.World.{World}
-use Rattle.def_state.specs.Links.{jointHome, jointRoom, merge-islands}
-use Rattle.table_meaning.specs.Decode.{key_of, worldOf}
+use Rattle.def_state.specs.Links.{joint_home, joint_room, merge_islands}
+use Rattle.table_meaning.specs.Decode.{key_of, world_of}
 use Rattle.table_meaning.specs.Layout.{tables, Extents, extents}
 use Rattle.def_kinds.specs.declared.Answer.TheVariants.{Nothing, JointsFull}
 use Rattle.core_laws.specs.Steps.{handle}
 use Rattle.core_laws.proofs.Then.{refused}
 use Rattle.core_laws.proofs.Unlink.{island-lives}
-use Rattle.core_laws.proofs.JointKeys.{joint-home-none, home-unlinked, joint-home, joint-home-lt, found_none, found_at}
+use Rattle.core_laws.proofs.JointKeys.{joint-home_none, home-unlinked, joint-home, joint-home_lt, found_none, found_at}
 use Rattle.core_laws.proofs.GrowPlace.{room-place, place-is-ready}
 use Rattle.core_laws.proofs.Link.{target_none, target-second, target_first, target-both, joint-old, joint-loose, joint-full, place-held, merged-room}
 use Rattle.core_link.proofs.Laws.{target-some}
@@ -43,9 +43,9 @@ returns c =
     let t-args = c4.args in
     let t-pre = c4.requires in
     let A = found_at t-pre.0 t-find-place.ensures t-if1.true in
-    let l = joint-home-lt t-args.kind t-args.a t-args.b t-args.c t-pre.0 t-pre.1 _ A in
-    let s = t-pre.0.good.joints-wf.rules.m-small in
-    refused _ Nothing t-pre.0 (joint-old t-args.z (key_of t-args.kind t-args.a t-args.b t-args.c) (handle t-args.s1 t-args.g1) (handle t-args.s2 t-args.g2) (worldOf t-args.z t-args.t.now) (λ e. (let f = joint-home t-args.kind t-args.a t-args.b t-args.c t-pre.0 t-pre.1 _ A in omega arith)))
+    let l = joint-home_lt t-args.kind t-args.a t-args.b t-args.c t-pre.0 t-pre.1 _ A in
+    let s = t-pre.0.good.joints_wf.rules.m_small in
+    refused _ Nothing t-pre.0 (joint-old t-args.z (key_of t-args.kind t-args.a t-args.b t-args.c) (handle t-args.s1 t-args.g1) (handle t-args.s2 t-args.g2) (world_of t-args.z t-args.t.now) (λ e. (let f = joint-home t-args.kind t-args.a t-args.b t-args.c t-pre.0 t-pre.1 _ A in omega arith)))
 
 body-island-requires : tie.Need-body-island-requires
 body-island-requires c κs = search rules
@@ -67,7 +67,7 @@ returns-2 c =
     let c4 = c1.before.before.before in
     let t-body-island2 = c4.body-island2 in
     let c6 = c4.before.before in
-    let t-body-island = c6.body-island in
+    let t-body-island = c6.body_island in
     let c8 = c6.before.before in
     let t-if1 = c8.if1 in
     let c9 = c8.before in
@@ -75,7 +75,7 @@ returns-2 c =
     let c12 = c9.before.before.before in
     let t-args = c12.args in
     let t-pre = c12.requires in
-    refused _ Nothing t-pre.0 (joint-loose t-args.z (key_of t-args.kind t-args.a t-args.b t-args.c) (handle t-args.s1 t-args.g1) (handle t-args.s2 t-args.g2) (worldOf t-args.z t-args.t.now) (joint-home-none t-args.kind t-args.a t-args.b t-args.c t-pre.0 t-pre.1 (found_none t-pre.0 t-find-place.ensures t-if1.false)) (target_none (worldOf t-args.z t-args.t.now) (handle t-args.s1 t-args.g1) (handle t-args.s2 t-args.g2) (sym t-body-island.ensures ∙ t-if2.true) (sym t-body-island2.ensures ∙ t-if3.true)))
+    refused _ Nothing t-pre.0 (joint-loose t-args.z (key_of t-args.kind t-args.a t-args.b t-args.c) (handle t-args.s1 t-args.g1) (handle t-args.s2 t-args.g2) (world_of t-args.z t-args.t.now) (joint-home_none t-args.kind t-args.a t-args.b t-args.c t-pre.0 t-pre.1 (found_none t-pre.0 t-find-place.ensures t-if1.false)) (target_none (world_of t-args.z t-args.t.now) (handle t-args.s1 t-args.g1) (handle t-args.s2 t-args.g2) (sym t-body-island.ensures ∙ t-if2.true) (sym t-body-island2.ensures ∙ t-if3.true)))
 
 same-length-3 : tie.Need-same-length-3
 same-length-3 c = search rules
@@ -92,7 +92,7 @@ returns-3 c =
     let c5 = c3.before.before in
     let t-body-island2 = c5.body-island2 in
     let c7 = c5.before.before in
-    let t-body-island = c7.body-island in
+    let t-body-island = c7.body_island in
     let c9 = c7.before.before in
     let t-if1 = c9.if1 in
     let c10 = c9.before in
@@ -100,7 +100,7 @@ returns-3 c =
     let c13 = c10.before.before.before in
     let t-args = c13.args in
     let t-pre = c13.requires in
-    refused _ JointsFull t-pre.0 (joint-full t-args.z (key_of t-args.kind t-args.a t-args.b t-args.c) (handle t-args.s1 t-args.g1) (handle t-args.s2 t-args.g2) (worldOf t-args.z t-args.t.now) (joint-home-none t-args.kind t-args.a t-args.b t-args.c t-pre.0 t-pre.1 (found_none t-pre.0 t-find-place.ensures t-if1.false)) (λ e. t-if3.false (t-body-island2.ensures ∙ sym (target-second (worldOf t-args.z t-args.t.now) (handle t-args.s1 t-args.g1) (handle t-args.s2 t-args.g2) (sym t-body-island.ensures ∙ t-if2.true)) ∙ e)) (sym t-joint-room.ensures.0 ∙ t-if4.true))
+    refused _ JointsFull t-pre.0 (joint-full t-args.z (key_of t-args.kind t-args.a t-args.b t-args.c) (handle t-args.s1 t-args.g1) (handle t-args.s2 t-args.g2) (world_of t-args.z t-args.t.now) (joint-home_none t-args.kind t-args.a t-args.b t-args.c t-pre.0 t-pre.1 (found_none t-pre.0 t-find-place.ensures t-if1.false)) (λ e. t-if3.false (t-body-island2.ensures ∙ sym (target-second (world_of t-args.z t-args.t.now) (handle t-args.s1 t-args.g1) (handle t-args.s2 t-args.g2) (sym t-body-island.ensures ∙ t-if2.true)) ∙ e)) (sym t-joint-room.ensures.0 ∙ t-if4.true))
 
 hold-joint-requires : tie.Need-hold-joint-requires
 hold-joint-requires c κs =
@@ -119,7 +119,7 @@ hold-joint-requires c κs =
     let c14 = c11.before.before.before in
     let t-args = c14.args in
     let t-pre = c14.requires in
-    (t-pre.0, t-pre.1, (joint-home-none t-args.kind t-args.a t-args.b t-args.c t-pre.0 t-pre.1 (found_none t-pre.0 t-find-place.ensures t-if1.false)), (rw (sym t-body-island2.ensures) at (island-lives t-args.s2 t-args.g2 t-pre.0 (λ q. t-if3.false (t-body-island2.ensures ∙ q)))), (λ e. t-if4.false (t-joint-room.ensures.0 ∙ e)), t-joint-room.ensures.1)
+    (t-pre.0, t-pre.1, (joint-home_none t-args.kind t-args.a t-args.b t-args.c t-pre.0 t-pre.1 (found_none t-pre.0 t-find-place.ensures t-if1.false)), (rw (sym t-body-island2.ensures) at (island-lives t-args.s2 t-args.g2 t-pre.0 (λ q. t-if3.false (t-body-island2.ensures ∙ q)))), (λ e. t-if4.false (t-joint-room.ensures.0 ∙ e)), t-joint-room.ensures.1)
 
 same-length-4 : tie.Need-same-length-4
 same-length-4 c = search rules
@@ -139,7 +139,7 @@ returns-4 c =
     let c9 = c7.before.before in
     let t-body-island2 = c9.body-island2 in
     let c11 = c9.before.before in
-    let t-body-island = c11.body-island in
+    let t-body-island = c11.body_island in
     let c13 = c11.before.before in
     let t-if1 = c13.if1 in
     let c14 = c13.before in
@@ -147,7 +147,7 @@ returns-4 c =
     let c17 = c14.before.before.before in
     let t-args = c17.args in
     let t-pre = c17.requires in
-    joint-second t-args.z t-args.t.now (key_of t-args.kind t-args.a t-args.b t-args.c) (handle t-args.s1 t-args.g1) (handle t-args.s2 t-args.g2) (joint-home-none t-args.kind t-args.a t-args.b t-args.c t-pre.0 t-pre.1 (found_none t-pre.0 t-find-place.ensures t-if1.false)) (λ e. t-if4.false (t-joint-room.ensures.0 ∙ e)) t-body-island2.result (sym t-body-island.ensures ∙ t-if2.true) t-body-island2.ensures t-if3.false t-hold-joint.ensures
+    joint-second t-args.z t-args.t.now (key_of t-args.kind t-args.a t-args.b t-args.c) (handle t-args.s1 t-args.g1) (handle t-args.s2 t-args.g2) (joint-home_none t-args.kind t-args.a t-args.b t-args.c t-pre.0 t-pre.1 (found_none t-pre.0 t-find-place.ensures t-if1.false)) (λ e. t-if4.false (t-joint-room.ensures.0 ∙ e)) t-body-island2.result (sym t-body-island.ensures ∙ t-if2.true) t-body-island2.ensures t-if3.false t-hold-joint.ensures
 
 same-length-5 : tie.Need-same-length-5
 same-length-5 c = search rules
@@ -160,7 +160,7 @@ returns-5 c =
     let c2 = c1.before in
     let t-joint-room = c2.joint-room in
     let c6 = c2.before.before.before.before in
-    let t-body-island = c6.body-island in
+    let t-body-island = c6.body_island in
     let c8 = c6.before.before in
     let t-if1 = c8.if1 in
     let c9 = c8.before in
@@ -168,7 +168,7 @@ returns-5 c =
     let c12 = c9.before.before.before in
     let t-args = c12.args in
     let t-pre = c12.requires in
-    refused _ JointsFull t-pre.0 (joint-full t-args.z (key_of t-args.kind t-args.a t-args.b t-args.c) (handle t-args.s1 t-args.g1) (handle t-args.s2 t-args.g2) (worldOf t-args.z t-args.t.now) (joint-home-none t-args.kind t-args.a t-args.b t-args.c t-pre.0 t-pre.1 (found_none t-pre.0 t-find-place.ensures t-if1.false)) (target-some (worldOf t-args.z t-args.t.now) (handle t-args.s1 t-args.g1) (handle t-args.s2 t-args.g2) (λ e. t-if2.false (t-body-island.ensures ∙ e))) (sym t-joint-room.ensures.0 ∙ t-if5.true))
+    refused _ JointsFull t-pre.0 (joint-full t-args.z (key_of t-args.kind t-args.a t-args.b t-args.c) (handle t-args.s1 t-args.g1) (handle t-args.s2 t-args.g2) (world_of t-args.z t-args.t.now) (joint-home_none t-args.kind t-args.a t-args.b t-args.c t-pre.0 t-pre.1 (found_none t-pre.0 t-find-place.ensures t-if1.false)) (target-some (world_of t-args.z t-args.t.now) (handle t-args.s1 t-args.g1) (handle t-args.s2 t-args.g2) (λ e. t-if2.false (t-body-island.ensures ∙ e))) (sym t-joint-room.ensures.0 ∙ t-if5.true))
 
 hold-joint-requires-2 : tie.Need-hold-joint-requires-2
 hold-joint-requires-2 c κs =
@@ -179,7 +179,7 @@ hold-joint-requires-2 c κs =
     let c4 = c3.before in
     let t-joint-room = c4.joint-room in
     let c8 = c4.before.before.before.before in
-    let t-body-island = c8.body-island in
+    let t-body-island = c8.body_island in
     let c10 = c8.before.before in
     let t-if1 = c10.if1 in
     let c11 = c10.before in
@@ -187,7 +187,7 @@ hold-joint-requires-2 c κs =
     let c14 = c11.before.before.before in
     let t-args = c14.args in
     let t-pre = c14.requires in
-    (t-pre.0, t-pre.1, (joint-home-none t-args.kind t-args.a t-args.b t-args.c t-pre.0 t-pre.1 (found_none t-pre.0 t-find-place.ensures t-if1.false)), (rw (sym t-body-island.ensures) at (island-lives t-args.s1 t-args.g1 t-pre.0 (λ q. t-if2.false (t-body-island.ensures ∙ q)))), (λ e. t-if5.false (t-joint-room.ensures.0 ∙ e)), t-joint-room.ensures.1)
+    (t-pre.0, t-pre.1, (joint-home_none t-args.kind t-args.a t-args.b t-args.c t-pre.0 t-pre.1 (found_none t-pre.0 t-find-place.ensures t-if1.false)), (rw (sym t-body-island.ensures) at (island-lives t-args.s1 t-args.g1 t-pre.0 (λ q. t-if2.false (t-body-island.ensures ∙ q)))), (λ e. t-if5.false (t-joint-room.ensures.0 ∙ e)), t-joint-room.ensures.1)
 
 same-length-6 : tie.Need-same-length-6
 same-length-6 c = search rules
@@ -207,7 +207,7 @@ returns-6 c =
     let c9 = c7.before.before in
     let t-body-island2 = c9.body-island2 in
     let c11 = c9.before.before in
-    let t-body-island = c11.body-island in
+    let t-body-island = c11.body_island in
     let c13 = c11.before.before in
     let t-if1 = c13.if1 in
     let c14 = c13.before in
@@ -215,7 +215,7 @@ returns-6 c =
     let c17 = c14.before.before.before in
     let t-args = c17.args in
     let t-pre = c17.requires in
-    joint-first t-args.z t-args.t.now (key_of t-args.kind t-args.a t-args.b t-args.c) (handle t-args.s1 t-args.g1) (handle t-args.s2 t-args.g2) (joint-home-none t-args.kind t-args.a t-args.b t-args.c t-pre.0 t-pre.1 (found_none t-pre.0 t-find-place.ensures t-if1.false)) (λ e. t-if5.false (t-joint-room.ensures.0 ∙ e)) t-body-island.result t-body-island.ensures t-if2.false (sym t-body-island2.ensures ∙ t-if6.true) t-hold-joint2.ensures
+    joint-first t-args.z t-args.t.now (key_of t-args.kind t-args.a t-args.b t-args.c) (handle t-args.s1 t-args.g1) (handle t-args.s2 t-args.g2) (joint-home_none t-args.kind t-args.a t-args.b t-args.c t-pre.0 t-pre.1 (found_none t-pre.0 t-find-place.ensures t-if1.false)) (λ e. t-if5.false (t-joint-room.ensures.0 ∙ e)) t-body-island.result t-body-island.ensures t-if2.false (sym t-body-island2.ensures ∙ t-if6.true) t-hold-joint2.ensures
 
 merge-islands-requires : tie.Need-merge-islands-requires
 merge-islands-requires c κs =
@@ -226,18 +226,18 @@ merge-islands-requires c κs =
     let c6 = c3.before.before.before in
     let t-body-island2 = c6.body-island2 in
     let c8 = c6.before.before in
-    let t-body-island = c8.body-island in
+    let t-body-island = c8.body_island in
     let c14 = c8.before.before.before.before.before.before in
     let t-args = c14.args in
     let t-pre = c14.requires in
     let A = (rw (sym t-body-island.ensures) at (island-lives t-args.s1 t-args.g1 t-pre.0 (λ q. t-if2.false (t-body-island.ensures ∙ q)))) in
     let B = (rw (sym t-body-island2.ensures) at (island-lives t-args.s2 t-args.g2 t-pre.0 (λ q. t-if6.false (t-body-island2.ensures ∙ q)))) in
-    record { sound = t-pre.0; a_lt = A.in_use; b_lt = B.in_use; a-live = A.some; b-live = B.some }
+    record { sound = t-pre.0; a_lt = A.in_use; b_lt = B.in_use; a_live = A.some; b_live = B.some }
 
 hold-joint-requires-3 : tie.Need-hold-joint-requires-3
 hold-joint-requires-3 c κs =
     let c3 = c.before.before.before in
-    let t-merge-islands = c3.merge-islands in
+    let t-merge-islands = c3.merge_islands in
     let c6 = c3.before.before.before in
     let t-if5 = c6.if5 in
     let c8 = c6.before.before in
@@ -245,7 +245,7 @@ hold-joint-requires-3 c κs =
     let c10 = c8.before.before in
     let t-body-island2 = c10.body-island2 in
     let c12 = c10.before.before in
-    let t-body-island = c12.body-island in
+    let t-body-island = c12.body_island in
     let c14 = c12.before.before in
     let t-if1 = c14.if1 in
     let c15 = c14.before in
@@ -256,9 +256,9 @@ hold-joint-requires-3 c κs =
     let M = t-merge-islands.ensures in
     let T = M.steps.does.sound in
     let r = t-joint-room.ensures.0 in
-    let x = merged-room t-args.z t-body-island.result t-body-island2.result (worldOf t-args.z t-args.t.now) in
-    let y : jointRoom t-args.z (worldOf t-args.z _) ≡ jointRoom t-args.z (merge-islands t-body-island.result t-body-island2.result (worldOf t-args.z t-args.t.now)) = ap (jointRoom t-args.z) M.steps.does.after in
-    (T, t-pre.1, joint-home-none t-args.kind t-args.a t-args.b t-args.c T t-pre.1 (merge-unlinked M.stays (found_none t-pre.0 t-find-place.ensures t-if1.false)), record { in_use = M.in_use; some = M.live }, (λ e. t-if5.false (r ∙ sym x ∙ sym y ∙ e)), t-joint-room.ensures.1)
+    let x = merged-room t-args.z t-body-island.result t-body-island2.result (world_of t-args.z t-args.t.now) in
+    let y : joint_room t-args.z (world_of t-args.z _) ≡ joint_room t-args.z (merge_islands t-body-island.result t-body-island2.result (world_of t-args.z t-args.t.now)) = ap (joint_room t-args.z) M.steps.does.after in
+    (T, t-pre.1, joint-home_none t-args.kind t-args.a t-args.b t-args.c T t-pre.1 (merge-unlinked M.stays (found_none t-pre.0 t-find-place.ensures t-if1.false)), record { in_use = M.in_use; some = M.live }, (λ e. t-if5.false (r ∙ sym x ∙ sym y ∙ e)), t-joint-room.ensures.1)
 
 same-length-7 : tie.Need-same-length-7
 same-length-7 c = search rules
@@ -268,7 +268,7 @@ returns-7 c =
     let c2 = c.before.before in
     let t-hold-joint3 = c2.hold-joint3 in
     let c6 = c2.before.before.before.before in
-    let t-merge-islands = c6.merge-islands in
+    let t-merge-islands = c6.merge_islands in
     let c8 = c6.before.before in
     let t-if6 = c8.if6 in
     let c9 = c8.before in
@@ -280,7 +280,7 @@ returns-7 c =
     let c13 = c11.before.before in
     let t-body-island2 = c13.body-island2 in
     let c15 = c13.before.before in
-    let t-body-island = c15.body-island in
+    let t-body-island = c15.body_island in
     let c17 = c15.before.before in
     let t-if1 = c17.if1 in
     let c18 = c17.before in
@@ -289,8 +289,8 @@ returns-7 c =
     let t-args = c21.args in
     let t-pre = c21.requires in
     let M = t-merge-islands.ensures in
-    let d : t-merge-islands.result ≢ none = (λ q. (let a = M.in_use in let b = M.steps.does.sound.good.members-wf.rules.m-small in omega arith)) in
-    joint-both t-args.z t-args.t.now (key_of t-args.kind t-args.a t-args.b t-args.c) (handle t-args.s1 t-args.g1) (handle t-args.s2 t-args.g2) (joint-home-none t-args.kind t-args.a t-args.b t-args.c t-pre.0 t-pre.1 (found_none t-pre.0 t-find-place.ensures t-if1.false)) (λ e. t-if5.false (t-joint-room.ensures.0 ∙ e)) t-body-island.result t-body-island2.result t-merge-islands.result t-body-island.ensures t-if2.false t-body-island2.ensures t-if6.false d M t-hold-joint3.ensures
+    let d : t-merge-islands.result ≢ none = (λ q. (let a = M.in_use in let b = M.steps.does.sound.good.members_wf.rules.m_small in omega arith)) in
+    joint-both t-args.z t-args.t.now (key_of t-args.kind t-args.a t-args.b t-args.c) (handle t-args.s1 t-args.g1) (handle t-args.s2 t-args.g2) (joint-home_none t-args.kind t-args.a t-args.b t-args.c t-pre.0 t-pre.1 (found_none t-pre.0 t-find-place.ensures t-if1.false)) (λ e. t-if5.false (t-joint-room.ensures.0 ∙ e)) t-body-island.result t-body-island2.result t-merge-islands.result t-body-island.ensures t-if2.false t-body-island2.ensures t-if6.false d M t-hold-joint3.ensures
 
 pub link-joint-on-spec : {M : Type 1} → statement M
 link-joint-on-spec =

@@ -89,7 +89,7 @@ same_length c = search rules
 returns : tie.Need-returns
 returns c =
     let c2 = c.before.before in
-    let t-clear-pending-split-of = c2.clear-pending-split-of in
+    let t-clear-pending-split-of = c2.clear_pending_split_of in
     let c6 = c2.before.before.before.before in
     let t-push = c6.push in
     let c10 = c6.before.before.before.before in

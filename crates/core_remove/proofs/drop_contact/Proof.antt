@@ -37,7 +37,7 @@ set4-requires c κs =
     let c8 = c5.before.before.before in
     let t-args = c8.args in
     let t-pre = c8.requires in
-    (t-remove.ensures.same_length ∙ t-pre.0.long, (let l = (contact-last t-args.i t-last.result t-pre.0 t-pre.1 t-pre.2 t-last.ensures.0).room-lt in omega arith))
+    (t-remove.ensures.same_length ∙ t-pre.0.long, (let l = (contact-last t-args.i t-last.result t-pre.0 t-pre.1 t-pre.2 t-last.ensures.0).room_lt in omega arith))
 
 same_length : tie.Need-same-length
 same_length c = search rules

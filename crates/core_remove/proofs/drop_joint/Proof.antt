@@ -1,7 +1,7 @@
 use native.Mathlib.Omega.{arith}
 use mathlib.Core.Path.{◌∙◌}
 use borrow.Author.Rules.{rules}
-use Rattle.core_laws.proofs.DropJoint.{joint-last, place-ready, joint-dropped}
+use Rattle.core_laws.proofs.DropJoint.{joint-last, place_ready, joint-dropped}
 use Rattle.core_remove.proofs.drop_joint.Statement.{statement}
 use Rattle.core_remove.proofs.drop_joint.Tie as tie
 use Rattle.core_remove.proofs.drop_joint.Reads as reads
@@ -38,7 +38,7 @@ set4-requires c κs =
     let c8 = c5.before.before.before in
     let t-args = c8.args in
     let t-pre = c8.requires in
-    (t-remove.ensures.same_length ∙ t-pre.0.long, (let l = (joint-last t-args.i t-last.result t-pre.0 t-pre.1 t-pre.2 t-last.ensures.0).room-lt in omega arith))
+    (t-remove.ensures.same_length ∙ t-pre.0.long, (let l = (joint-last t-args.i t-last.result t-pre.0 t-pre.1 t-pre.2 t-last.ensures.0).room_lt in omega arith))
 
 add-set4 : tie.Need-overflow-add-set4
 add-set4 c = search rules
@@ -54,7 +54,7 @@ set4-requires-2 c κs =
     let c12 = c9.before.before.before in
     let t-args = c12.args in
     let t-pre = c12.requires in
-    (t-set4.ensures.same_length ∙ t-remove.ensures.same_length ∙ t-pre.0.long, (let l = (joint-last t-args.i t-last.result t-pre.0 t-pre.1 t-pre.2 t-last.ensures.0).room-lt in omega arith))
+    (t-set4.ensures.same_length ∙ t-remove.ensures.same_length ∙ t-pre.0.long, (let l = (joint-last t-args.i t-last.result t-pre.0 t-pre.1 t-pre.2 t-last.ensures.0).room_lt in omega arith))
 
 push-requires : tie.Need-push-requires
 push-requires c κs =
@@ -69,7 +69,7 @@ push-requires c κs =
     let c16 = c13.before.before.before in
     let t-args = c16.args in
     let t-pre = c16.requires in
-    (t-set42.ensures.same_length ∙ t-set4.ensures.same_length ∙ t-remove.ensures.same_length ∙ t-pre.0.long, place-ready t-args.i t-last.result t-pre.0 t-pre.1 t-pre.2 t-last.ensures.0 t-remove.ensures t-set4.ensures t-set42.ensures)
+    (t-set42.ensures.same_length ∙ t-set4.ensures.same_length ∙ t-remove.ensures.same_length ∙ t-pre.0.long, place_ready t-args.i t-last.result t-pre.0 t-pre.1 t-pre.2 t-last.ensures.0 t-remove.ensures t-set4.ensures t-set42.ensures)
 
 same_length : tie.Need-same-length
 same_length c = search rules

@@ -3,7 +3,7 @@ use native.Mathlib.Omega.{arith}
 use mathlib.Core.Path.{◌≡◌, sym, ◌∙◌}
 use Prim.Native.Nat.{ℕ, ◌<◌}
 use mathlib.Core.List.{List}
-use Rattle.table_meaning.specs.Layout.{tables, extents, joints-in}
+use Rattle.table_meaning.specs.Layout.{tables, extents, joints_in}
 use Rattle.table_meaning.specs.Sound.{Sound}
 use Rattle.core_laws.specs.Drops.{JointsCleared}
 use Rattle.core_laws.proofs.DropJoint.{joints-cleared-none, joints-cleared-more}
@@ -16,7 +16,7 @@ use Rattle.table_words.proofs.count.Reads as count-reads
 
 abbrev invariant-loop : tie.invariant-loop
 invariant-loop t₀ z i left₀ t left =
-    Sound z t × (i < (extents (tables z t)).islands) × (left ≡ (joints-in z (tables z t)).count i) × ((u : List ℕ) → JointsCleared z i t u → JointsCleared z i t₀ u)
+    Sound z t × (i < (extents (tables z t)).islands) × (left ≡ (joints_in z (tables z t)).count i) × ((u : List ℕ) → JointsCleared z i t u → JointsCleared z i t₀ u)
 
 abbrev decreases-loop : tie.decreases-loop
 decreases-loop t₀ z i left₀ t left = left
@@ -25,7 +25,7 @@ count-requires : tie.Need-count-requires invariant-loop decreases-loop
 count-requires c κs =
     let c2 = c.before.before in
     let t-pre = c2.requires in
-    (t-pre.0.long, (let g = t-pre.0.good.islands-le in let l = t-pre.1 in omega arith))
+    (t-pre.0.long, (let g = t-pre.0.good.islands_le in let l = t-pre.1 in omega arith))
 
 loop-holds : tie.Need-loop-init invariant-loop decreases-loop
 loop-holds c =
@@ -57,7 +57,7 @@ loop-less c =
 loop-again : tie.Need-loop-preserved invariant-loop decreases-loop
 loop-again c =
     let c2 = c.before.before in
-    let t-drop-joint = c2.drop-joint in
+    let t-drop-joint = c2.drop_joint in
     let c4 = c2.before.before in
     let t-loop-test = c4.loop-test in
     let c5 = c4.before in

@@ -2,8 +2,8 @@ use native.Mathlib.Omega.{arith}
 use mathlib.Core.Path.{sym, ◌∙◌}
 use borrow.Author.Tests.{not-true, not-false}
 use borrow.Author.Rules.{rules}
-use Rattle.table_meaning.specs.Decode.{worldOf}
-use Rattle.core_laws.proofs.Names.{named-is, home-is}
+use Rattle.table_meaning.specs.Decode.{world_of}
+use Rattle.core_laws.proofs.Names.{named_is, home_is}
 use Rattle.core_remove.proofs.Laws.{island-no, island-yes}
 use Rattle.core_remove.proofs.island_on.Statement.{statement}
 use Rattle.core_remove.proofs.island_on.Tie as tie
@@ -22,7 +22,7 @@ returns c =
     let t-is-named = c1.is-named in
     let c3 = c1.before.before in
     let t-args = c3.args in
-    island-no (worldOf t-args.z t-args.t.now) t-args.s t-args.g (sym t-is-named.ensures ∙ not-true _ t-if1.true)
+    island-no (world_of t-args.z t-args.t.now) t-args.s t-args.g (sym t-is-named.ensures ∙ not-true _ t-if1.true)
 
 home-requires : tie.Need-home-requires
 home-requires c κs =
@@ -33,8 +33,8 @@ home-requires c κs =
     let t-args = c3.args in
     let t-pre = c3.requires in
     let n = sym t-is-named.ensures ∙ not-false _ t-if1.false in
-    let l = (named-is t-args.z t-args.t.now t-args.s t-args.g n).slot_lt in
-    (t-pre.long, (let m = t-pre.good.slots-le in omega arith))
+    let l = (named_is t-args.z t-args.t.now t-args.s t-args.g n).slot_lt in
+    (t-pre.long, (let m = t-pre.good.slots_le in omega arith))
 
 returns-2 : tie.Need-returns-2
 returns-2 c =
@@ -47,8 +47,8 @@ returns-2 c =
     let t-args = c4.args in
     let t-pre = c4.requires in
     let n = sym t-is-named.ensures ∙ not-false _ t-if1.false in
-    let l = (named-is t-args.z t-args.t.now t-args.s t-args.g n).slot_lt in
-    island-yes (worldOf t-args.z t-args.t.now) t-args.s t-args.g t-home.result n (home-is t-args.z t-args.t.now t-args.s t-args.g t-pre l ∙ sym t-home.ensures.0)
+    let l = (named_is t-args.z t-args.t.now t-args.s t-args.g n).slot_lt in
+    island-yes (world_of t-args.z t-args.t.now) t-args.s t-args.g t-home.result n (home_is t-args.z t-args.t.now t-args.s t-args.g t-pre l ∙ sym t-home.ensures.0)
 
 pub island-on-spec : {M : Type 1} → statement M
 island-on-spec = tie.close (tie.spec is-named-requires returns home-requires returns-2)

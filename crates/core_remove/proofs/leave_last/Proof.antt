@@ -1,7 +1,7 @@
 use native.Mathlib.Omega.{arith}
 use mathlib.Core.Path.{◌∙◌}
 use borrow.Author.Rules.{rules}
-use Rattle.core_laws.proofs.Leave.{home-lt, leave-ready, free-ready}
+use Rattle.core_laws.proofs.Leave.{home_lt, leave-ready, free-ready}
 use Rattle.core_remove.proofs.Laws.{none_stays}
 use Rattle.core_remove.proofs.leave_last.Statement.{statement}
 use Rattle.core_remove.proofs.leave_last.Tie as tie
@@ -28,7 +28,7 @@ set3-requires c κs =
     let c6 = c3.before.before.before in
     let t-args = c6.args in
     let t-pre = c6.requires in
-    (t-remove.ensures.same_length ∙ t-pre.0.long, (let l = home-lt t-args.s t-args.i t-pre.0 t-pre.1 t-pre.2 t-pre.3 in let g = t-pre.0.good.islands-le in omega arith))
+    (t-remove.ensures.same_length ∙ t-pre.0.long, (let l = home_lt t-args.s t-args.i t-pre.0 t-pre.1 t-pre.2 t-pre.3 in let g = t-pre.0.good.islands_le in omega arith))
 
 push-requires : tie.Need-push-requires
 push-requires c κs =

@@ -1,7 +1,7 @@
 use native.Mathlib.Omega.{arith}
 use mathlib.Core.Path.{◌∙◌}
 use borrow.Author.Rules.{rules}
-use Rattle.core_laws.proofs.Leave.{home-lt, leave-ready}
+use Rattle.core_laws.proofs.Leave.{home_lt, leave-ready}
 use Rattle.core_remove.proofs.Laws.{others-stay}
 use Rattle.core_remove.proofs.leave_some.Statement.{statement}
 use Rattle.core_remove.proofs.leave_some.Tie as tie
@@ -29,7 +29,7 @@ get-requires c κs =
     let c6 = c3.before.before.before in
     let t-args = c6.args in
     let t-pre = c6.requires in
-    (t-remove.ensures.same_length ∙ t-pre.0.long, (let l = home-lt t-args.s t-args.i t-pre.0 t-pre.1 t-pre.2 t-pre.3 in let g = t-pre.0.good.islands-le in omega arith))
+    (t-remove.ensures.same_length ∙ t-pre.0.long, (let l = home_lt t-args.s t-args.i t-pre.0 t-pre.1 t-pre.2 t-pre.3 in let g = t-pre.0.good.islands_le in omega arith))
 
 one-more-requires : tie.Need-one-more-requires
 one-more-requires c κs = search rules
@@ -44,7 +44,7 @@ set-requires c κs =
     let c9 = c6.before.before.before in
     let t-args = c9.args in
     let t-pre = c9.requires in
-    (t-remove.ensures.same_length ∙ t-pre.0.long, (let l = home-lt t-args.s t-args.i t-pre.0 t-pre.1 t-pre.2 t-pre.3 in let g = t-pre.0.good.islands-le in omega arith))
+    (t-remove.ensures.same_length ∙ t-pre.0.long, (let l = home_lt t-args.s t-args.i t-pre.0 t-pre.1 t-pre.2 t-pre.3 in let g = t-pre.0.good.islands_le in omega arith))
 
 same_length : tie.Need-same-length
 same_length c = search rules

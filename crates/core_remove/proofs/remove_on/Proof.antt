@@ -2,8 +2,8 @@ use native.Mathlib.Omega.{arith}
 use mathlib.Core.Path.{sym, ◌∙◌}
 use borrow.Author.Tests.{not-true, not-false}
 use borrow.Author.Rules.{rules}
-use Rattle.core_laws.proofs.Names.{named-is}
-use Rattle.core_laws.proofs.Leave.{home-lt}
+use Rattle.core_laws.proofs.Names.{named_is}
+use Rattle.core_laws.proofs.Leave.{home_lt}
 use Rattle.core_remove.proofs.Laws.{some-body, not_named, no-island, removed-only, removed-some}
 use Rattle.core_remove.proofs.remove_on.Statement.{statement}
 use Rattle.core_remove.proofs.remove_on.Tie as tie
@@ -41,8 +41,8 @@ home-requires c κs =
     let t-args = c5.args in
     let t-pre = c5.requires in
     let n = sym t-is-named.ensures ∙ not-false _ t-if1.false in
-    let l = (named-is t-args.z t-args.t.now t-args.s t-args.g n).slot_lt in
-    (t-pre.long, (let m = t-pre.good.slots-le in omega arith))
+    let l = (named_is t-args.z t-args.t.now t-args.s t-args.g n).slot_lt in
+    (t-pre.long, (let m = t-pre.good.slots_le in omega arith))
 
 same-length-2 : tie.Need-same-length-2
 same-length-2 c = search rules
@@ -60,7 +60,7 @@ returns-2 c =
     let t-args = c7.args in
     let t-pre = c7.requires in
     let n = sym t-is-named.ensures ∙ not-false _ t-if1.false in
-    let l = (named-is t-args.z t-args.t.now t-args.s t-args.g n).slot_lt in
+    let l = (named_is t-args.z t-args.t.now t-args.s t-args.g n).slot_lt in
     no-island t-args.s t-args.g t-pre n l (sym t-home.ensures.0 ∙ t-if2.true)
 
 count-requires : tie.Need-count-requires
@@ -77,8 +77,8 @@ count-requires c κs =
     let t-args = c8.args in
     let t-pre = c8.requires in
     let n = sym t-is-named.ensures ∙ not-false _ t-if1.false in
-    let l = (named-is t-args.z t-args.t.now t-args.s t-args.g n).slot_lt in
-    (t-pre.long, (let h = home-lt t-args.s t-home.result t-pre l (sym t-home.ensures.0) t-if2.false in let m = t-pre.good.islands-le in omega arith))
+    let l = (named_is t-args.z t-args.t.now t-args.s t-args.g n).slot_lt in
+    (t-pre.long, (let h = home_lt t-args.s t-home.result t-pre l (sym t-home.ensures.0) t-if2.false in let m = t-pre.good.islands_le in omega arith))
 
 remove-only-requires : tie.Need-remove-only-requires
 remove-only-requires c κs =
@@ -98,7 +98,7 @@ remove-only-requires c κs =
     let t-args = c11.args in
     let t-pre = c11.requires in
     let n = sym t-is-named.ensures ∙ not-false _ t-if1.false in
-    let l = (named-is t-args.z t-args.t.now t-args.s t-args.g n).slot_lt in
+    let l = (named_is t-args.z t-args.t.now t-args.s t-args.g n).slot_lt in
     (t-pre, l, sym t-home.ensures.0, t-if2.false, sym t-count.ensures.0 ∙ t-if3.true)
 
 same-length-3 : tie.Need-same-length-3
@@ -129,7 +129,7 @@ returns-3 c =
     let t-args = c14.args in
     let t-pre = c14.requires in
     let n = sym t-is-named.ensures ∙ not-false _ t-if1.false in
-    let l = (named-is t-args.z t-args.t.now t-args.s t-args.g n).slot_lt in
+    let l = (named_is t-args.z t-args.t.now t-args.s t-args.g n).slot_lt in
     removed-only t-args.s t-args.g t-pre n l t-home.result (sym t-home.ensures.0) t-if2.false (sym t-count.ensures.0 ∙ t-if3.true) t-remove-only.ensures
 
 leave-some-requires : tie.Need-leave-some-requires
@@ -150,7 +150,7 @@ leave-some-requires c κs =
     let t-args = c11.args in
     let t-pre = c11.requires in
     let n = sym t-is-named.ensures ∙ not-false _ t-if1.false in
-    let l = (named-is t-args.z t-args.t.now t-args.s t-args.g n).slot_lt in
+    let l = (named_is t-args.z t-args.t.now t-args.s t-args.g n).slot_lt in
     (t-pre, l, sym t-home.ensures.0, t-if2.false, omega (arith, some-body t-args.s t-home.result t-pre l (sym t-home.ensures.0) t-if2.false, t-count.ensures.0, t-if3.false))
 
 same-length-4 : tie.Need-same-length-4
@@ -181,7 +181,7 @@ returns-4 c =
     let t-args = c14.args in
     let t-pre = c14.requires in
     let n = sym t-is-named.ensures ∙ not-false _ t-if1.false in
-    let l = (named-is t-args.z t-args.t.now t-args.s t-args.g n).slot_lt in
+    let l = (named_is t-args.z t-args.t.now t-args.s t-args.g n).slot_lt in
     removed-some t-args.s t-args.g t-pre n l t-home.result (sym t-home.ensures.0) t-if2.false (omega (arith, some-body t-args.s t-home.result t-pre l (sym t-home.ensures.0) t-if2.false, t-count.ensures.0, t-if3.false)) t-leave-some.ensures
 
 pub remove-on-spec : {M : Type 1} → statement M

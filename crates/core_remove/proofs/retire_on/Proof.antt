@@ -4,10 +4,10 @@ use borrow.Author.Tests.{not-true, not-false}
 use borrow.Author.Rules.{rules}
 use Rattle.def_kinds.specs.declared.Answer.TheVariants.{Nothing}
 use Rattle.def_state.specs.Bodies.{retire}
-use Rattle.table_meaning.specs.Decode.{worldOf}
+use Rattle.table_meaning.specs.Decode.{world_of}
 use Rattle.core_laws.specs.Steps.{handle}
 use Rattle.core_laws.proofs.Then.{refused}
-use Rattle.core_laws.proofs.Names.{named-is}
+use Rattle.core_laws.proofs.Names.{named_is}
 use Rattle.core_laws.proofs.Emptied.{retire-no, retired}
 use Rattle.core_remove.proofs.retire_on.Statement.{statement}
 use Rattle.core_remove.proofs.retire_on.Tie as tie
@@ -31,7 +31,7 @@ returns c =
     let c4 = c1.before.before.before in
     let t-args = c4.args in
     let t-pre = c4.requires in
-    refused (retire (handle t-args.s t-args.g)) Nothing t-pre (retire-no (worldOf t-args.z t-args.t.now) t-args.s t-args.g (sym t-is-named.ensures ∙ not-true _ t-if1.true))
+    refused (retire (handle t-args.s t-args.g)) Nothing t-pre (retire-no (world_of t-args.z t-args.t.now) t-args.s t-args.g (sym t-is-named.ensures ∙ not-true _ t-if1.true))
 
 remove-on-requires : tie.Need-remove-on-requires
 remove-on-requires c κs = search rules
@@ -47,9 +47,9 @@ empty-slot-requires c κs =
     let c9 = c6.before.before.before in
     let t-args = c9.args in
     let n = sym t-is-named.ensures ∙ not-false _ t-if1.false in
-    let m = named-is t-args.z t-args.t.now t-args.s t-args.g n in
+    let m = named_is t-args.z t-args.t.now t-args.s t-args.g n in
     let R = t-remove-on.ensures in
-    (R.does.sound, (let l = m.slot_lt in let e = R.slots in omega arith), R.gone n, (let d = m.not-absent in omega arith))
+    (R.does.sound, (let l = m.slot_lt in let e = R.slots in omega arith), R.gone n, (let d = m.not_absent in omega arith))
 
 same-length-2 : tie.Need-same-length-2
 same-length-2 c =

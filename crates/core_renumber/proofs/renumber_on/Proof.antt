@@ -4,7 +4,7 @@ use mathlib.Core.Logic.{◌≢◌}
 use Prim.Native.Nat.{◌+◌, ◌<◌}
 use native.Mathlib.Omega.{arith}
 use Rattle.list_in_table.specs.Rules.{none}
-use Rattle.table_meaning.specs.Layout.{tables, extents, contacts-in}
+use Rattle.table_meaning.specs.Layout.{tables, extents, contacts_in}
 use Rattle.core_laws.proofs.Renumber.{edge-unknown, edge-linked, edge-not-last, edge-less, shrunk}
 use borrow.Author.Rules.{rules}
 use Rattle.core_renumber.proofs.renumber_on.Statement.{statement}
@@ -118,7 +118,7 @@ hand-over-requires c κs =
     let c12 = c9.before.before.before in
     let t-args = c12.args in
     let t-pre = c12.requires in
-    let e = t-get.ensures.0 in let h = t-if1.false in let d = t-if3.false in let el : t-args.removed < (extents (tables t-args.z t-args.t.now)).edges = omega arith in let q : (extents (tables t-args.z t-args.t.now)).edges ≡ t-args.last + 1 = omega arith in let b = sym t-home.ensures.0 ∙ t-if2.false in let n : (contacts-in t-args.z (tables t-args.z t-args.t.now)).home t-args.last ≢ none = λ x. t-if4.false (t-home2.ensures.0 ∙ x) in record { sound = t-pre; edges-is = q; to-lt = edge-less t-args.removed t-args.last t-pre el b q n; to_free = b; from-linked = n }
+    let e = t-get.ensures.0 in let h = t-if1.false in let d = t-if3.false in let el : t-args.removed < (extents (tables t-args.z t-args.t.now)).edges = omega arith in let q : (extents (tables t-args.z t-args.t.now)).edges ≡ t-args.last + 1 = omega arith in let b = sym t-home.ensures.0 ∙ t-if2.false in let n : (contacts_in t-args.z (tables t-args.z t-args.t.now)).home t-args.last ≢ none = λ x. t-if4.false (t-home2.ensures.0 ∙ x) in record { sound = t-pre; edges_is = q; to_lt = edge-less t-args.removed t-args.last t-pre el b q n; to_free = b; from_linked = n }
 
 same-length-5 : tie.Need-same-length-5
 same-length-5 c = search rules

@@ -4,7 +4,7 @@ use mathlib.Core.Logic.{◌⊎◌, ◌≢◌, inl, inr}
 use Prim.Native.Nat.{◌+◌, ◌-◌, ◌*◌, ◌≤◌, ◌<◌}
 use borrow.Author.Rules.{rules}
 use Rattle.list_in_table.specs.Rules.{none}
-use Rattle.table_meaning.specs.Decode.{worldOf}
+use Rattle.table_meaning.specs.Decode.{world_of}
 use Rattle.table_meaning.specs.Layout.{tables, extents}
 use Rattle.def_kinds.specs.declared.Answer.TheVariants.{Nothing}
 use Rattle.core_laws.proofs.Then.{refused}
@@ -30,7 +30,7 @@ returns : tie.Need-returns
 returns c =
     let t-if1 = c.if1 in
     let c1 = c.before in
-    let t-body-island = c1.body-island in
+    let t-body-island = c1.body_island in
     let c4 = c1.before.before.before in
     let t-args = c4.args in
     let t-pre = c4.requires in
@@ -48,7 +48,7 @@ returns-2 c =
     let c1 = c.before in
     let t-body-island2 = c1.body-island2 in
     let c4 = c1.before.before.before in
-    let t-body-island = c4.body-island in
+    let t-body-island = c4.body_island in
     let c7 = c4.before.before.before in
     let t-args = c7.args in
     let t-pre = c7.requires in
@@ -65,12 +65,12 @@ get-requires c κs =
     let c4 = c.before.before.before.before in
     let t-if1 = c4.if1 in
     let c5 = c4.before in
-    let t-body-island = c5.body-island in
+    let t-body-island = c5.body_island in
     let c8 = c5.before.before.before in
     let t-args = c8.args in
     let t-pre = c8.requires in
     let L = rw (sym t-body-island.ensures) at (island-lives t-args.s1 t-args.g1 t-pre (λ e. t-if1.false (t-body-island.ensures ∙ e))) in
-    (t-pre.long, (let a = L.in_use in let b = t-pre.good.islands-le in omega arith))
+    (t-pre.long, (let a = L.in_use in let b = t-pre.good.islands_le in omega arith))
 
 one-more-requires : tie.Need-one-more-requires
 one-more-requires c κs = search rules
@@ -86,12 +86,12 @@ set-requires c κs =
     let c7 = c.before.before.before.before.before.before.before in
     let t-if1 = c7.if1 in
     let c8 = c7.before in
-    let t-body-island = c8.body-island in
+    let t-body-island = c8.body_island in
     let c11 = c8.before.before.before in
     let t-args = c11.args in
     let t-pre = c11.requires in
     let L = rw (sym t-body-island.ensures) at (island-lives t-args.s1 t-args.g1 t-pre (λ e. t-if1.false (t-body-island.ensures ∙ e))) in
-    (t-pre.long, (let a = L.in_use in let b = t-pre.good.islands-le in omega arith))
+    (t-pre.long, (let a = L.in_use in let b = t-pre.good.islands_le in omega arith))
 
 same-length-3 : tie.Need-same-length-3
 same-length-3 c = search rules
@@ -111,7 +111,7 @@ returns-3 c =
     let c10 = c8.before.before in
     let t-if1 = c10.if1 in
     let c11 = c10.before in
-    let t-body-island = c11.body-island in
+    let t-body-island = c11.body_island in
     let c14 = c11.before.before.before in
     let t-args = c14.args in
     let t-pre = c14.requires in

@@ -5,7 +5,7 @@ use mathlib.Core.Logic.{◌⊎◌, ◌≢◌, inl, inr}
 use Prim.Native.Nat.{ℕ, ◌+◌, ◌-◌, ◌*◌, ◌≤◌, ◌<◌}
 use borrow.Author.Rules.{rules}
 use Rattle.list_in_table.specs.Rules.{none}
-use Rattle.table_meaning.specs.Decode.{worldOf}
+use Rattle.table_meaning.specs.Decode.{world_of}
 use Rattle.table_meaning.specs.Layout.{tables, extents}
 use Rattle.def_kinds.specs.declared.Answer.TheVariants.{Nothing}
 use Rattle.core_laws.proofs.Then.{refused}
@@ -67,7 +67,7 @@ journal-word-requires c κs =
     let t-head-word = c4.head-word in
     let c7 = c4.before.before.before in
     let t-pre = c7.requires in
-    let e = t-head-word.ensures.0 in let b = t-pre.good.journal-le in
+    let e = t-head-word.ensures.0 in let b = t-pre.good.journal_le in
     (t_loop.invariant.0.sound.long, omega (arith, t-loop-test.true))
 
 add-journal-word : tie.Need-overflow-add-journal-word invariant-loop decreases-loop
@@ -88,7 +88,7 @@ journal-word-requires-2 c κs =
     let t-head-word = c6.head-word in
     let c9 = c6.before.before.before in
     let t-pre = c9.requires in
-    let e = t-head-word.ensures.0 in let b = t-pre.good.journal-le in
+    let e = t-head-word.ensures.0 in let b = t-pre.good.journal_le in
     (t_loop.invariant.0.sound.long, omega (arith, t-loop-test.true))
 
 add-journal-word-2 : tie.Need-overflow-add-journal-word-2 invariant-loop decreases-loop
@@ -109,7 +109,7 @@ journal-word-requires-3 c κs =
     let t-head-word = c8.head-word in
     let c11 = c8.before.before.before in
     let t-pre = c11.requires in
-    let e = t-head-word.ensures.0 in let b = t-pre.good.journal-le in
+    let e = t-head-word.ensures.0 in let b = t-pre.good.journal_le in
     (t_loop.invariant.0.sound.long, omega (arith, t-loop-test.true))
 
 add-journal-word-3 : tie.Need-overflow-add-journal-word-3 invariant-loop decreases-loop
@@ -130,7 +130,7 @@ journal-word-requires-4 c κs =
     let t-head-word = c10.head-word in
     let c13 = c10.before.before.before in
     let t-pre = c13.requires in
-    let e = t-head-word.ensures.0 in let b = t-pre.good.journal-le in
+    let e = t-head-word.ensures.0 in let b = t-pre.good.journal_le in
     (t_loop.invariant.0.sound.long, omega (arith, t-loop-test.true))
 
 count-entry-requires : tie.Need-count-entry-requires invariant-loop decreases-loop

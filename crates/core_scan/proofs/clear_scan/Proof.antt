@@ -3,7 +3,7 @@ use native.Mathlib.Omega.{arith}
 use mathlib.Core.Path.{◌≡◌, sym, ◌∙◌}
 use Prim.Native.Nat.{ℕ}
 use mathlib.Core.List.{List}
-use Rattle.table_meaning.specs.Layout.{tables, scan-in}
+use Rattle.table_meaning.specs.Layout.{tables, scan_in}
 use Rattle.table_meaning.specs.Sound.{Sound}
 use Rattle.core_scan.specs.Scanning.{Forgotten}
 use Rattle.core_scan.proofs.Forget.{forgotten-none, forgotten-more}
@@ -11,7 +11,7 @@ use Rattle.core_scan.proofs.clear_scan.Statement.{statement}
 use Rattle.core_scan.proofs.clear_scan.Tie as tie
 
 abbrev invariant-loop : tie.invariant-loop
-invariant-loop t₀ z left₀ t left = Sound z t × (left ≡ (scan-in z (tables z t)).count 0) × ((u : List ℕ) → Forgotten z t u → Forgotten z t₀ u)
+invariant-loop t₀ z left₀ t left = Sound z t × (left ≡ (scan_in z (tables z t)).count 0) × ((u : List ℕ) → Forgotten z t u → Forgotten z t₀ u)
 
 abbrev decreases-loop : tie.decreases-loop
 decreases-loop t₀ z left₀ t left = left
@@ -52,7 +52,7 @@ loop-less c =
 loop-again : tie.Need-loop-preserved invariant-loop decreases-loop
 loop-again c =
     let c2 = c.before.before in
-    let t-forget-last = c2.forget-last in
+    let t-forget-last = c2.forget_last in
     let c4 = c2.before.before in
     let t-loop-test = c4.loop-test in
     let c5 = c4.before in

@@ -26,7 +26,7 @@ set-requires c κs =
     let t-last = c5.last in
     let c8 = c5.before.before.before in
     let t-pre = c8.requires in
-    (t-remove.ensures.same_length ∙ t-pre.0.long, (scan-last t-last.result t-pre.0 t-pre.1 t-last.ensures.0).room-lt)
+    (t-remove.ensures.same_length ∙ t-pre.0.long, (scan-last t-last.result t-pre.0 t-pre.1 t-last.ensures.0).room_lt)
 
 same_length : tie.Need-same-length
 same_length c = search rules

@@ -1,4 +1,4 @@
-use Rattle.core_scan.proofs.Keep.{scan-kept}
+use Rattle.core_scan.proofs.Keep.{scan_kept}
 use borrow.Author.Rules.{rules}
 use Rattle.core_scan.proofs.keep_scan.Statement.{statement}
 use Rattle.core_scan.proofs.keep_scan.Tie as tie
@@ -22,7 +22,7 @@ returns c =
     let t-args = c6.args in
     let t-pre = c6.requires in
     let P = rw t-bit.ensures at t-set2.ensures in
-    scan-kept t-args.scan t-pre P
+    scan_kept t-args.scan t-pre P
 
 pub keep-scan-spec : {M : Type 1} → statement M
 keep-scan-spec = tie.close (tie.spec bit-requires set2-requires same_length returns)

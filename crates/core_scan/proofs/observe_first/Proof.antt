@@ -32,7 +32,7 @@ set-requires c κs =
     let t-push = c3.push in
     let c10 = c3.before.before.before.before.before.before.before in
     let t-pre = c10.requires in
-    (t-push.ensures.same_length ∙ t-pre.sound.long, (let a = t-pre.in_use in let b = t-pre.sound.good.islands-le in omega arith))
+    (t-push.ensures.same_length ∙ t-pre.sound.long, (let a = t-pre.in_use in let b = t-pre.sound.good.islands_le in omega arith))
 
 keep-scan-requires : tie.Need-keep-scan-requires
 keep-scan-requires c κs =

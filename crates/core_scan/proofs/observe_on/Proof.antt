@@ -50,7 +50,7 @@ home-requires c κs =
     let t-is-live = c5.is_live in
     let c8 = c5.before.before.before in
     let t-pre = c8.requires in
-    (t-pre.long, (let a = (t-is-live.ensures.lives (not-false _ t-if1.false)).in_use in let b = t-pre.good.islands-le in omega arith))
+    (t-pre.long, (let a = (t-is-live.ensures.lives (not-false _ t-if1.false)).in_use in let b = t-pre.good.islands_le in omega arith))
 
 observe-first-requires : tie.Need-observe-first-requires
 observe-first-requires c κs =

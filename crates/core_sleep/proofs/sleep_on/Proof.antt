@@ -40,7 +40,7 @@ same-length-2 c = search rules
 returns-2 : tie.Need-returns-2
 returns-2 c =
     let c2 = c.before.before in
-    let t-clear-pending-split-of = c2.clear-pending-split-of in
+    let t-clear-pending-split-of = c2.clear_pending_split_of in
     let c6 = c2.before.before.before.before in
     let t-rest = c6.rest in
     let c8 = c6.before.before in

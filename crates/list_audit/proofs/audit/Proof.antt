@@ -71,12 +71,12 @@ returns-3 : tie.Need-returns-3 invariant-loop decreases-loop invariant-loop2 dec
 returns-3 c =
     is-yes
     (record {
-      elems-below = omega arith;
-      lists-below = omega arith;
+      elems_below = omega arith;
+      lists_below = omega arith;
       rules =
           record {
-            n-small = omega arith;
-            m-small = omega arith;
+            n_small = omega arith;
+            m_small = omega arith;
             elem = c.before.loop2.invariant.1;
             list = λ k l. c.before.loop2.invariant.2 k (omega arith);
           };

@@ -34,7 +34,7 @@ returns-8 : tie.Need-returns-8
 returns-8 c = is-neither (λ b. omega arith) (λ h. false≢true (sym (not-true _ c.if8.true) ∙ c.before.is-fore.ensures.1 h.fore))
 
 returns-9 : tie.Need-returns-9
-returns-9 c = is-yes (inr (record { home-lt = omega arith; place-lt = omega arith; back = c.before.before.before.is-back.ensures.0 (not-false _ c.before.before.if7.false); fore = c.before.is-fore.ensures.0 (not-false _ c.if8.false) }))
+returns-9 c = is-yes (inr (record { home_lt = omega arith; place_lt = omega arith; back = c.before.before.before.is-back.ensures.0 (not-false _ c.before.before.if7.false); fore = c.before.is-fore.ensures.0 (not-false _ c.if8.false) }))
 
 pub is-elem-spec : {M : Type 1} → statement M
 is-elem-spec =

@@ -4,7 +4,7 @@ use native.Mathlib.Omega.{arith}
 use mathlib.Core.Path.{◌∙◌}
 use lib.ListN.{length-set}
 use Rattle.list_in_table.specs.Table.{pushed}
-use Rattle.list_in_table.proofs.Laws.{last-lt}
+use Rattle.list_in_table.proofs.Laws.{last_lt}
 use Rattle.list_in_table.proofs.Pigeon.{count-lt}
 use Rattle.list_in_table.proofs.push_last.Statement.{statement}
 use Rattle.list_in_table.proofs.push_last.Tie as tie
@@ -34,12 +34,12 @@ push-last-spec =
     (λ c. search rules)  -- add-t-3
     (λ c. search rules)  -- mul-t-4
     (λ c. simp length-set (omega arith))  -- slice-write-t-4
-    (λ c. omega (arith, c.before.before.before.requires.wf.rules.n-small, count-lt c.before.before.before.requires.wf.rules _ _ c.before.before.before.requires.list-lt c.before.before.before.requires.elem-lt c.before.before.before.requires.elem-blank))  -- add-t-4
+    (λ c. omega (arith, c.before.before.before.requires.wf.rules.n_small, count-lt c.before.before.before.requires.wf.rules _ _ c.before.before.before.requires.list_lt c.before.before.before.requires.elem_lt c.before.before.before.requires.elem_blank))  -- add-t-4
     (λ c. search rules)  -- mul-t-5
     (λ c. simp length-set (omega arith))  -- slice-write-t-5
     (λ c. search rules)  -- add-t-5
     (λ c. search rules)  -- mul-t-6
     (λ c. simp length-set (omega arith))  -- slice-write-t-6
-    (λ c κs h. simp length-set (omega (arith, last-lt c.before.before.before.before.requires.wf.rules _ c.before.before.before.before.requires.list-lt h)))  -- set-next-requires
+    (λ c κs h. simp length-set (omega (arith, last_lt c.before.before.before.before.requires.wf.rules _ c.before.before.before.before.requires.list_lt h)))  -- set-next-requires
     (λ c. c.before.before.set_next.auto.0 ∙ simp length-set)  -- same-length
     (λ c. c.before.before.set_next.ensures))  -- returns

@@ -13,7 +13,7 @@ use Rattle.list_in_table.proofs.swap_remove.Statement.{statement}
 use Rattle.list_in_table.proofs.swap_remove.Tie as tie
 
 room : (c : tie.Start) → c.args.base + 4 * c.requires.n ≤ length c.args.t.now
-room c = let a = c.requires.wf.elems-below in let b = c.requires.wf.lists-below in omega arith
+room c = let a = c.requires.wf.elems_below in let b = c.requires.wf.lists_below in omega arith
 
 add-t-4 : tie.Need-overflow-add-t-4
 add-t-4 c = omega (arith, known c.before.before.before.before.before.before.before.before.before.requires)
@@ -25,7 +25,7 @@ slice-write-t-6 : tie.Need-slice-write-t-6
 slice-write-t-6 c = simp length-set (omega (arith, known c.before.before.before.before.before.before.before.before.before.requires))
 
 set-next-requires : tie.Need-set-next-requires
-set-next-requires c κs h = simp length-set (omega (arith, known c.before.before.before.before.before.before.before.before.before.before.requires, (known c.before.before.before.before.before.before.before.before.before.before.requires).prev-ok h))
+set-next-requires c κs h = simp length-set (omega (arith, known c.before.before.before.before.before.before.before.before.before.before.requires, (known c.before.before.before.before.before.before.before.before.before.before.requires).prev_ok h))
 
 same_length : tie.Need-same-length
 same_length c = c.before.before.set_next.auto.0 ∙ simp length-set
@@ -53,7 +53,7 @@ slice-write-t-8 : tie.Need-slice-write-t-8
 slice-write-t-8 c = simp length-set (omega (arith, known c.before.before.before.before.before.before.before.before.before.requires))
 
 set-next-requires-2 : tie.Need-set-next-requires-2
-set-next-requires-2 c κs h = simp length-set (omega (arith, known c.before.before.before.before.before.before.before.before.before.before.requires, (known c.before.before.before.before.before.before.before.before.before.before.requires).prev-ok h))
+set-next-requires-2 c κs h = simp length-set (omega (arith, known c.before.before.before.before.before.before.before.before.before.before.requires, (known c.before.before.before.before.before.before.before.before.before.before.requires).prev_ok h))
 
 same-length-2 : tie.Need-same-length-2
 same-length-2 c = c.before.before.before.set-next2.auto.0 ∙ simp length-set
@@ -66,43 +66,43 @@ cast-next-cell : tie.Need-overflow-cast-next-cell
 cast-next-cell c = omega (arith, known c.before.before.before.before.before.before.before.before.before.before.before.before.before.before.requires, inner c.before.before.before.before.before.before.before.before.before.before.before.before.before.before.requires c.before.before.before.before.before.if1.false)
 
 mul-next-cell : tie.Need-overflow-mul-next-cell
-mul-next-cell c = fits-mul _ _ _ _ (inner c.before.before.before.before.before.before.before.before.before.before.before.before.before.before.requires c.before.before.before.before.before.if1.false).next-lt (room c.before.before.before.before.before.before.before.before.before.before.before.before.before.before) c.before.before.before.before.before.before.before.before.before.before.before.before.before.before.well-formed.0.1
+mul-next-cell c = fits-mul _ _ _ _ (inner c.before.before.before.before.before.before.before.before.before.before.before.before.before.before.requires c.before.before.before.before.before.if1.false).next_lt (room c.before.before.before.before.before.before.before.before.before.before.before.before.before.before) c.before.before.before.before.before.before.before.before.before.before.before.before.before.before.well-formed.0.1
 
 add-next-cell : tie.Need-overflow-add-next-cell
-add-next-cell c = fits-add _ _ _ _ (inner c.before.before.before.before.before.before.before.before.before.before.before.before.before.before.requires c.before.before.before.before.before.if1.false).next-lt (room c.before.before.before.before.before.before.before.before.before.before.before.before.before.before) c.before.before.before.before.before.before.before.before.before.before.before.before.before.before.well-formed.0.1
+add-next-cell c = fits-add _ _ _ _ (inner c.before.before.before.before.before.before.before.before.before.before.before.before.before.before.requires c.before.before.before.before.before.if1.false).next_lt (room c.before.before.before.before.before.before.before.before.before.before.before.before.before.before) c.before.before.before.before.before.before.before.before.before.before.before.before.before.before.well-formed.0.1
 
 cast-before-cell : tie.Need-overflow-cast-before-cell
 cast-before-cell c = omega (arith, known c.before.before.before.before.before.before.before.before.before.before.before.before.before.before.requires, inner c.before.before.before.before.before.before.before.before.before.before.before.before.before.before.requires c.before.before.before.before.before.if1.false)
 
 mul-before-cell : tie.Need-overflow-mul-before-cell
-mul-before-cell c = fits-mul _ _ _ _ (inner c.before.before.before.before.before.before.before.before.before.before.before.before.before.before.requires c.before.before.before.before.before.if1.false).prev-last (room c.before.before.before.before.before.before.before.before.before.before.before.before.before.before) c.before.before.before.before.before.before.before.before.before.before.before.before.before.before.well-formed.0.1
+mul-before-cell c = fits-mul _ _ _ _ (inner c.before.before.before.before.before.before.before.before.before.before.before.before.before.before.requires c.before.before.before.before.before.if1.false).prev_last (room c.before.before.before.before.before.before.before.before.before.before.before.before.before.before) c.before.before.before.before.before.before.before.before.before.before.before.before.before.before.well-formed.0.1
 
 add-before-cell : tie.Need-overflow-add-before-cell
-add-before-cell c = fits-add _ _ _ _ (inner c.before.before.before.before.before.before.before.before.before.before.before.before.before.before.requires c.before.before.before.before.before.if1.false).prev-last (room c.before.before.before.before.before.before.before.before.before.before.before.before.before.before) c.before.before.before.before.before.before.before.before.before.before.before.before.before.before.well-formed.0.1
+add-before-cell c = fits-add _ _ _ _ (inner c.before.before.before.before.before.before.before.before.before.before.before.before.before.before.requires c.before.before.before.before.before.if1.false).prev_last (room c.before.before.before.before.before.before.before.before.before.before.before.before.before.before) c.before.before.before.before.before.before.before.before.before.before.before.before.before.before.well-formed.0.1
 
 add-t-7 : tie.Need-overflow-add-t-7
-add-t-7 c = fits_word _ _ _ _ (known c.before.before.before.before.before.before.before.before.before.before.before.before.before.before.requires).last-lt (room c.before.before.before.before.before.before.before.before.before.before.before.before.before.before) c.before.before.before.before.before.before.before.before.before.before.before.before.before.before.well-formed.0.1 3 (lit< tt)
+add-t-7 c = fits_word _ _ _ _ (known c.before.before.before.before.before.before.before.before.before.before.before.before.before.before.requires).last_lt (room c.before.before.before.before.before.before.before.before.before.before.before.before.before.before) c.before.before.before.before.before.before.before.before.before.before.before.before.before.before.well-formed.0.1 3 (lit< tt)
 
 mul-t-9 : tie.Need-overflow-mul-t-9
-mul-t-9 c = fits-index _ _ _ _ (known c.before.before.before.before.before.before.before.before.before.before.before.before.before.before.requires).last-lt (room c.before.before.before.before.before.before.before.before.before.before.before.before.before.before) c.before.before.before.before.before.before.before.before.before.before.before.before.before.before.well-formed.0.1 3 (lit< tt)
+mul-t-9 c = fits-index _ _ _ _ (known c.before.before.before.before.before.before.before.before.before.before.before.before.before.before.requires).last_lt (room c.before.before.before.before.before.before.before.before.before.before.before.before.before.before) c.before.before.before.before.before.before.before.before.before.before.before.before.before.before.well-formed.0.1 3 (lit< tt)
 
 slice-write-t-9 : tie.Need-slice-write-t-9
 slice-write-t-9 c = omega (arith, known c.before.before.before.before.before.before.before.before.before.before.before.before.before.before.requires, inner c.before.before.before.before.before.before.before.before.before.before.before.before.before.before.requires c.before.before.before.before.before.if1.false, simp length-set at c.before.before.before.set-next2.auto.0)
 
 add-t-8 : tie.Need-overflow-add-t-8
-add-t-8 c = fits_word _ _ _ _ (inner c.before.before.before.before.before.before.before.before.before.before.before.before.before.before.requires c.before.before.before.before.before.if1.false).next-lt (room c.before.before.before.before.before.before.before.before.before.before.before.before.before.before) c.before.before.before.before.before.before.before.before.before.before.before.before.before.before.well-formed.0.1 2 (lit< tt)
+add-t-8 c = fits_word _ _ _ _ (inner c.before.before.before.before.before.before.before.before.before.before.before.before.before.before.requires c.before.before.before.before.before.if1.false).next_lt (room c.before.before.before.before.before.before.before.before.before.before.before.before.before.before) c.before.before.before.before.before.before.before.before.before.before.before.before.before.before.well-formed.0.1 2 (lit< tt)
 
 mul-t-10 : tie.Need-overflow-mul-t-10
-mul-t-10 c = fits-index _ _ _ _ (inner c.before.before.before.before.before.before.before.before.before.before.before.before.before.before.requires c.before.before.before.before.before.if1.false).next-lt (room c.before.before.before.before.before.before.before.before.before.before.before.before.before.before) c.before.before.before.before.before.before.before.before.before.before.before.before.before.before.well-formed.0.1 2 (lit< tt)
+mul-t-10 c = fits-index _ _ _ _ (inner c.before.before.before.before.before.before.before.before.before.before.before.before.before.before.requires c.before.before.before.before.before.if1.false).next_lt (room c.before.before.before.before.before.before.before.before.before.before.before.before.before.before) c.before.before.before.before.before.before.before.before.before.before.before.before.before.before.well-formed.0.1 2 (lit< tt)
 
 slice-write-t-10 : tie.Need-slice-write-t-10
 slice-write-t-10 c = simp length-set (omega (arith, known c.before.before.before.before.before.before.before.before.before.before.before.before.before.before.requires, inner c.before.before.before.before.before.before.before.before.before.before.before.before.before.before.requires c.before.before.before.before.before.if1.false, simp length-set at c.before.before.before.set-next2.auto.0))
 
 add-t-9 : tie.Need-overflow-add-t-9
-add-t-9 c = fits_word _ _ _ _ (inner c.before.before.before.before.before.before.before.before.before.before.before.before.before.before.requires c.before.before.before.before.before.if1.false).prev-last (room c.before.before.before.before.before.before.before.before.before.before.before.before.before.before) c.before.before.before.before.before.before.before.before.before.before.before.before.before.before.well-formed.0.1 3 (lit< tt)
+add-t-9 c = fits_word _ _ _ _ (inner c.before.before.before.before.before.before.before.before.before.before.before.before.before.before.requires c.before.before.before.before.before.if1.false).prev_last (room c.before.before.before.before.before.before.before.before.before.before.before.before.before.before) c.before.before.before.before.before.before.before.before.before.before.before.before.before.before.well-formed.0.1 3 (lit< tt)
 
 mul-t-11 : tie.Need-overflow-mul-t-11
-mul-t-11 c = fits-index _ _ _ _ (inner c.before.before.before.before.before.before.before.before.before.before.before.before.before.before.requires c.before.before.before.before.before.if1.false).prev-last (room c.before.before.before.before.before.before.before.before.before.before.before.before.before.before) c.before.before.before.before.before.before.before.before.before.before.before.before.before.before.well-formed.0.1 3 (lit< tt)
+mul-t-11 c = fits-index _ _ _ _ (inner c.before.before.before.before.before.before.before.before.before.before.before.before.before.before.requires c.before.before.before.before.before.if1.false).prev_last (room c.before.before.before.before.before.before.before.before.before.before.before.before.before.before) c.before.before.before.before.before.before.before.before.before.before.before.before.before.before.well-formed.0.1 3 (lit< tt)
 
 slice-write-t-11 : tie.Need-slice-write-t-11
 slice-write-t-11 c = simp length-set (omega (arith, known c.before.before.before.before.before.before.before.before.before.before.before.before.before.before.requires, inner c.before.before.before.before.before.before.before.before.before.before.before.before.before.before.requires c.before.before.before.before.before.if1.false, simp length-set at c.before.before.before.set-next2.auto.0))

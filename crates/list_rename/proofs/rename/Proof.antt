@@ -90,7 +90,7 @@ set-next-requires : tie.Need-set-next-requires
 set-next-requires c κs =
     let c6 = c.before.before.before.before.before.before in
     let t-pre = c6.requires in
-    λ h. simp length-set (let B = beside t-pre in let l = B.prev-lt h in let e = t-pre.wf.elems-below in let o = t-pre.wf.lists-below in omega arith)
+    λ h. simp length-set (let B = beside t-pre in let l = B.prev_lt h in let e = t-pre.wf.elems_below in let o = t-pre.wf.lists_below in omega arith)
 
 set-back-requires : tie.Need-set-back-requires
 set-back-requires c κs =
@@ -98,7 +98,7 @@ set-back-requires c κs =
     let t-set-next = c3.set_next in
     let c10 = c3.before.before.before.before.before.before.before in
     let t-pre = c10.requires in
-    ((λ h. let B = beside t-pre in let l = B.home-lt in let o = t-pre.wf.lists-below in let e = simp length-set at t-set-next.auto.0 in omega arith), (λ h. let B = beside t-pre in let l = B.next-lt h in let x = t-pre.wf.elems-below in let o = t-pre.wf.lists-below in let e = simp length-set at t-set-next.auto.0 in omega arith))
+    ((λ h. let B = beside t-pre in let l = B.home_lt in let o = t-pre.wf.lists_below in let e = simp length-set at t-set-next.auto.0 in omega arith), (λ h. let B = beside t-pre in let l = B.next_lt h in let x = t-pre.wf.elems_below in let o = t-pre.wf.lists_below in let e = simp length-set at t-set-next.auto.0 in omega arith))
 
 same_length : tie.Need-same-length
 same_length c =

@@ -10,13 +10,13 @@ use Rattle.list_in_table.specs.Rules.{none}
 use Rattle.list_in_table.proofs.Pigeon.{counts-le}
 use Rattle.list_splice.specs.Splice.{spliced, SpliceReady}
 use Rattle.list_splice.proofs.Walk.{Walk, start, step, inside, outside, done}
-use Rattle.list_in_table.proofs.Laws.{last-lt}
+use Rattle.list_in_table.proofs.Laws.{last_lt}
 use Rattle.list_splice.proofs.splice.Statement.{statement}
 use Rattle.list_splice.proofs.splice.Tie as tie
 
 -- the two lists hold at most n elements
 counts : {t : List ℕ} {b z g s : ℕ} (r : SpliceReady t b z g s) → (get_or t (z + 2 * g) 0 + get_or t (z + 2 * s) 0 ≤ r.n) × (r.n ≤ none)
-counts r = (counts-le r.wf.rules _ _ r.big_lt r.small-lt r.differ, r.wf.rules.n-small)
+counts r = (counts-le r.wf.rules _ _ r.big_lt r.small_lt r.differ, r.wf.rules.n_small)
 
 abbrev invariant-loop : tie.invariant-loop
 invariant-loop t₀ base ends big small y x c l d e k₀ q₀ f₀ t k q f = (r : SpliceReady t₀ base ends big small) × Walk t₀ base ends big small r t k q f
@@ -137,7 +137,7 @@ slice-write-t-3 : tie.Need-slice-write-t-3 invariant-loop decreases-loop
 slice-write-t-3 c = omega (arith, outside c.before.loop.invariant.1 c.loop-test.false c.before.before.if1.false)
 
 set-next-requires : tie.Need-set-next-requires invariant-loop decreases-loop
-set-next-requires c κs h = simp length-set (omega (arith, outside c.before.before.loop.invariant.1 c.before.loop-test.false c.before.before.before.if1.false, c.before.before.before.before.before.before.before.before.before.requires.wf, last-lt c.before.before.before.before.before.before.before.before.before.requires.wf.rules _ c.before.before.before.before.before.before.before.before.before.requires.big_lt h))
+set-next-requires c κs h = simp length-set (omega (arith, outside c.before.before.loop.invariant.1 c.before.loop-test.false c.before.before.before.if1.false, c.before.before.before.before.before.before.before.before.before.requires.wf, last_lt c.before.before.before.before.before.before.before.before.before.requires.wf.rules _ c.before.before.before.before.before.before.before.before.before.requires.big_lt h))
 
 add-t-4 : tie.Need-overflow-add-t-4 invariant-loop decreases-loop
 add-t-4 c = omega (arith, c.before.before.before.before.before.before.before.before.before.before.before.before.requires, counts c.before.before.before.before.before.before.before.before.before.before.before.before.requires, outside c.before.before.before.before.before.loop.invariant.1 c.before.before.before.before.loop-test.false c.before.before.before.before.before.before.if1.false, simp length-set at c.before.before.set_next.auto.0)

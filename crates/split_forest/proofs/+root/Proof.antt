@@ -41,7 +41,7 @@ root-root-requires :
     (t : ℕ) → root-lts.Need-root-requires (root_below t, root.Post) (root-at t) root.Post
 root-root-requires t c κs =
     let k = c.before.before.before.requires.1 in
-    (omega arith, record { within = k.within; place-lt = k.within _ k.place-lt })
+    (omega arith, record { within = k.within; place_lt = k.within _ k.place_lt })
 
 root-returns-3 : (t : ℕ) → root-lts.Need-returns-3 (root_below t, root.Post) (root-at t) root.Post
 root-returns-3 t c = c.root.ensures ∙ climb-step _ _ _ c.before.before.before.if1.false

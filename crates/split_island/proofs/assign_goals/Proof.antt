@@ -58,7 +58,7 @@ slice-read-goal c =
     let t-loop-test = c3.loop-test in
     let c4 = c3.before in
     let t_loop = c4.loop in
-    (let a = t_loop.invariant.goals-long in let b = t-loop-test.true in let d = t-if1.true in omega arith)
+    (let a = t_loop.invariant.goals_long in let b = t-loop-test.true in let d = t-if1.true in omega arith)
 
 mul-goals : tie.Need-overflow-mul-goals invariant-loop decreases-loop
 mul-goals c =
@@ -70,7 +70,7 @@ slice-write-goals c =
     let t-loop-test = c3.loop-test in
     let c4 = c3.before in
     let t_loop = c4.loop in
-    (let a = t_loop.invariant.goals-long in let b = t-loop-test.true in omega arith)
+    (let a = t_loop.invariant.goals_long in let b = t-loop-test.true in omega arith)
 
 add-p : tie.Need-overflow-add-p invariant-loop decreases-loop
 add-p c =
@@ -112,7 +112,7 @@ slice-write-goals-2 c =
     let t-loop-test = c3.loop-test in
     let c4 = c3.before in
     let t_loop = c4.loop in
-    (let a = t_loop.invariant.goals-long in let b = t-loop-test.true in omega arith)
+    (let a = t_loop.invariant.goals_long in let b = t-loop-test.true in omega arith)
 
 add-p-2 : tie.Need-overflow-add-p-2 invariant-loop decreases-loop
 add-p-2 c =
@@ -149,7 +149,7 @@ take-number-requires c κs =
     let t_loop = c5.loop in
     let c9 = c5.before.before.before.before in
     let t-pre = c9.requires in
-    (t_loop.invariant.went.sound, t-pre.asleep-le, assign-room t-pre t_loop.invariant t-loop-test.true t-if2.false t-if1.false)
+    (t_loop.invariant.went.sound, t-pre.asleep_le, assign-room t-pre t_loop.invariant t-loop-test.true t-if2.false t-if1.false)
 
 mul-goals-3 : tie.Need-overflow-mul-goals-3 invariant-loop decreases-loop
 mul-goals-3 c =
@@ -165,7 +165,7 @@ slice-write-goals-3 c =
     let t-loop-test = c7.loop-test in
     let c8 = c7.before in
     let t_loop = c8.loop in
-    (let a = t_loop.invariant.goals-long in let b = t-loop-test.true in omega arith)
+    (let a = t_loop.invariant.goals_long in let b = t-loop-test.true in omega arith)
 
 add-p-3 : tie.Need-overflow-add-p-3 invariant-loop decreases-loop
 add-p-3 c =
@@ -211,7 +211,7 @@ same-length-2 c =
     let t_loop = c1.loop in
     let c5 = c1.before.before.before.before in
     let t-pre = c5.requires in
-    t_loop.invariant.goals-long ∙ sym t-pre.goals-long
+    t_loop.invariant.goals_long ∙ sym t-pre.goals_long
 
 returns : tie.Need-returns invariant-loop decreases-loop
 returns c =
@@ -220,7 +220,7 @@ returns c =
     let t_loop = c1.loop in
     let c5 = c1.before.before.before.before in
     let t-args = c5.args in
-    subst (Assigning t-args.z t-args.base t-args.keep t-args.asleep t-args.labels.now t-args.t.now t_loop.t t_loop.goals) (let a = t_loop.invariant.p-le in let b = t-loop-test.false in omega arith) t_loop.invariant
+    subst (Assigning t-args.z t-args.base t-args.keep t-args.asleep t-args.labels.now t-args.t.now t_loop.t t_loop.goals) (let a = t_loop.invariant.p_le in let b = t-loop-test.false in omega arith) t_loop.invariant
 
 pub assign-goals-spec : {M : Type 1} → statement M
 assign-goals-spec =

@@ -3,7 +3,7 @@ use mathlib.Core.Path.{◌≡◌, refl, sym, ◌∙◌, ap, subst}
 use mathlib.Core.Logic.{◌⊎◌, ◌≢◌, inl, inr}
 use Prim.Native.Nat.{ℕ, ◌+◌, ◌-◌, ◌*◌, ◌≤◌, ◌<◌}
 use Rattle.table_meaning.specs.Layout.{tables, extents}
-use Rattle.def_state.specs.Split.{denial as denialOf}
+use Rattle.def_state.specs.Split.{denial as denial_of}
 use Rattle.split_island.proofs.Check.{checked-steps}
 use borrow.Author.Rules.{rules}
 use Rattle.split_island.proofs.check_island.Statement.{statement}
@@ -40,7 +40,7 @@ returns c =
     let c8 = c5.before.before.before in
     let t-args = c8.args in
     let t-pre = c8.requires in
-    checked-steps t-args.i t-denial.result t-pre.0 t-pre.1 (t-denial.ensures ∙ ap denialOf t-get.ensures.0) t-set2.ensures
+    checked-steps t-args.i t-denial.result t-pre.0 t-pre.1 (t-denial.ensures ∙ ap denial_of t-get.ensures.0) t-set2.ensures
 
 pub check-island-spec : {M : Type 1} → statement M
 check-island-spec =

@@ -20,7 +20,7 @@ slice-aggregate-split-island c =
     let c7 = c.before.before.before.before.before.before.before in
     let t-args = c7.args in
     let t-pre = c7.requires in
-    sym (length-take-le t-args.n t-args.parent.now t-pre.1.parent-long)
+    sym (length-take-le t-args.n t-args.parent.now t-pre.1.parent_long)
 
 slice-relend-prefix-split-island-2 : tie.Need-slice-relend-prefix-split-island-2
 slice-relend-prefix-split-island-2 c = search rules
@@ -30,7 +30,7 @@ slice-aggregate-split-island-2 c =
     let c8 = c.before.before.before.before.before.before.before.before in
     let t-args = c8.args in
     let t-pre = c8.requires in
-    sym (length-take-le t-args.n t-args.size.now t-pre.1.size-long)
+    sym (length-take-le t-args.n t-args.size.now t-pre.1.size_long)
 
 slice-relend-prefix-split-island-3 : tie.Need-slice-relend-prefix-split-island-3
 slice-relend-prefix-split-island-3 c = search rules
@@ -40,7 +40,7 @@ slice-aggregate-split-island-3 c =
     let c9 = c.before.before.before.before.before.before.before.before.before in
     let t-args = c9.args in
     let t-pre = c9.requires in
-    sym (length-take-le t-args.n t-args.first.now t-pre.1.first-long)
+    sym (length-take-le t-args.n t-args.first.now t-pre.1.first_long)
 
 slice-relend-prefix-split-island-4 : tie.Need-slice-relend-prefix-split-island-4
 slice-relend-prefix-split-island-4 c = search rules
@@ -50,14 +50,14 @@ slice-aggregate-split-island-4 c =
     let c10 = c.before.before.before.before.before.before.before.before.before.before in
     let t-args = c10.args in
     let t-pre = c10.requires in
-    sym (length-take-le t-args.n t-args.labels.now t-pre.1.labels-long)
+    sym (length-take-le t-args.n t-args.labels.now t-pre.1.labels_long)
 
 split-island-requires : tie.Need-split-island-requires
 split-island-requires c κs =
     let c10 = c.before.before.before.before.before.before.before.before.before.before in
     let t-args = c10.args in
     let t-pre = c10.requires in
-    (record { sound = t-pre.0.sound; lives = t-pre.0.lives; few = t-pre.0.few; parent-long = length-take-le t-args.n t-args.parent.now t-pre.1.parent-long ∙ t-pre.0.bodies; size-long = length-take-le t-args.n t-args.size.now t-pre.1.size-long ∙ t-pre.0.bodies; first-long = length-take-le t-args.n t-args.first.now t-pre.1.first-long ∙ t-pre.0.bodies; labels-long = length-take-le t-args.n t-args.labels.now t-pre.1.labels-long ∙ t-pre.0.bodies })
+    (record { sound = t-pre.0.sound; lives = t-pre.0.lives; few = t-pre.0.few; parent_long = length-take-le t-args.n t-args.parent.now t-pre.1.parent_long ∙ t-pre.0.bodies; size_long = length-take-le t-args.n t-args.size.now t-pre.1.size_long ∙ t-pre.0.bodies; first_long = length-take-le t-args.n t-args.first.now t-pre.1.first_long ∙ t-pre.0.bodies; labels_long = length-take-le t-args.n t-args.labels.now t-pre.1.labels_long ∙ t-pre.0.bodies })
 
 same_length : tie.Need-same-length
 same_length c = search rules

@@ -3,7 +3,7 @@ use mathlib.Core.Path.{◌≡◌, refl, sym, ◌∙◌, ap, subst}
 use mathlib.Core.Logic.{◌⊎◌, ◌≢◌, inl, inr}
 use Prim.Native.Nat.{ℕ, ◌+◌, ◌-◌, ◌*◌, ◌≤◌, ◌<◌}
 use Rattle.table_meaning.specs.Layout.{tables, extents}
-use Rattle.def_state.specs.Connected.{keepLabel}
+use Rattle.def_state.specs.Connected.{keep_label}
 use Rattle.split_island.specs.Part.{PartReady}
 use Rattle.split_island.proofs.Check.{split-whole, split_parts}
 use Rattle.split_island.proofs.Part.{labels-count}
@@ -47,7 +47,7 @@ returns c =
     let t-label-island = c14.label-island in
     let c25 = c14.before.before.before.before.before.before.before.before.before.before.before in
     let t-args = c25.args in
-    split-whole t-args.i t-label-island.result.components t-label-island.ensures.components-are t-if1.true t-check-island.ensures
+    split-whole t-args.i t-label-island.result.components t-label-island.ensures.components_are t-if1.true t-check-island.ensures
 
 part-island-requires : tie.Need-part-island-requires
 part-island-requires c κs =
@@ -56,7 +56,7 @@ part-island-requires c κs =
     let c24 = c13.before.before.before.before.before.before.before.before.before.before.before in
     let t-args = c24.args in
     let t-pre = c24.requires in
-    (record { sound = t-pre.sound; lives = t-pre.lives; labels-are = t-label-island.ensures.labels-are; keep-is = t-label-island.ensures.keep-is ∙ ap keepLabel (sym t-label-island.ensures.labels-are); inside = t-label-island.ensures.inside; goals-long = t-label-island.auto.1.1.1.1.1.0 ∙ t-pre.first-long ∙ sym (labels-count t-args.i t-pre.sound t-pre.lives t-label-island.ensures.labels-are) })
+    (record { sound = t-pre.sound; lives = t-pre.lives; labels_are = t-label-island.ensures.labels_are; keep_is = t-label-island.ensures.keep_is ∙ ap keep_label (sym t-label-island.ensures.labels_are); inside = t-label-island.ensures.inside; goals_long = t-label-island.auto.1.1.1.1.1.0 ∙ t-pre.first_long ∙ sym (labels-count t-args.i t-pre.sound t-pre.lives t-label-island.ensures.labels_are) })
 
 check-island-requires-2 : tie.Need-check-island-requires-2
 check-island-requires-2 c κs = search rules
@@ -98,7 +98,7 @@ returns-2 c =
     let t-label-island = c22.label-island in
     let c33 = c22.before.before.before.before.before.before.before.before.before.before.before in
     let t-args = c33.args in
-    split_parts t-args.i t-label-island.result.components t-label-island.ensures.components-are t-if1.false t-part-island.ensures t-check-island2.ensures
+    split_parts t-args.i t-label-island.result.components t-label-island.ensures.components_are t-if1.false t-part-island.ensures t-check-island2.ensures
 
 pub split-island-spec : {M : Type 1} → statement M
 split-island-spec =

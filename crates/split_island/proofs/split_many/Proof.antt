@@ -28,7 +28,7 @@ split-in-requires c κs =
     let c6 = c.before.before.before.before.before.before in
     let t-args = c6.args in
     let t-pre = c6.requires in
-    (t-pre, (let a = few-bodies t-args.i t-pre.sound t-pre.lives in let b = t-pre.few in let q = t-pre.bodies in record { parent-long = omega arith; size-long = omega arith; first-long = omega arith; labels-long = omega arith }))
+    (t-pre, (let a = few-bodies t-args.i t-pre.sound t-pre.lives in let b = t-pre.few in let q = t-pre.bodies in record { parent_long = omega arith; size_long = omega arith; first_long = omega arith; labels_long = omega arith }))
 
 same_length : tie.Need-same-length
 same_length c = search rules

@@ -30,7 +30,7 @@ body-count-requires c κs =
     let t-is-live = c2.is_live in
     let c5 = c2.before.before.before in
     let t-pre = c5.requires in
-    (let l = (t-is-live.ensures.lives (not-false _ t-if1.false)).in_use in let b = t-pre.0.good.islands-le in (t-pre.0.long, omega arith))
+    (let l = (t-is-live.ensures.lives (not-false _ t-if1.false)).in_use in let b = t-pre.0.good.islands_le in (t-pre.0.long, omega arith))
 
 cast-bodies : tie.Need-overflow-cast-bodies
 cast-bodies c = search rules
@@ -38,7 +38,7 @@ cast-bodies c = search rules
 split-live-requires : tie.Need-split-live-requires
 split-live-requires c κs =
     let c1 = c.before in
-    let t-body-count = c1.body-count in
+    let t-body-count = c1.body_count in
     let c3 = c1.before.before in
     let t-if1 = c3.if1 in
     let c4 = c3.before in

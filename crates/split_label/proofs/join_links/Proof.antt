@@ -23,13 +23,13 @@ count-requires : tie.Need-count-requires invariant-loop decreases-loop
 count-requires c κs =
     let c3 = c.before.before.before.before.before in
     let t-pre = c3.requires in
-    let a = t-pre.1.list-lt in let b = t-pre.1.lists in (t-pre.0.sound.long, omega arith)
+    let a = t-pre.1.list_lt in let b = t-pre.1.lists in (t-pre.0.sound.long, omega arith)
 
 last-requires : tie.Need-last-requires invariant-loop decreases-loop
 last-requires c κs =
     let c4 = c.before.before.before.before.before.before in
     let t-pre = c4.requires in
-    let a = t-pre.1.list-lt in let b = t-pre.1.lists in (t-pre.0.sound.long, omega arith)
+    let a = t-pre.1.list_lt in let b = t-pre.1.lists in (t-pre.0.sound.long, omega arith)
 
 loop-holds : tie.Need-loop-init invariant-loop decreases-loop
 loop-holds c =
@@ -162,7 +162,7 @@ same_length : tie.Need-same-length invariant-loop decreases-loop
 same_length c =
     let c1 = c.before in
     let t_loop = c1.loop in
-    t_loop.invariant.parent-long
+    t_loop.invariant.parent_long
 
 same-length-2 : tie.Need-same-length-2 invariant-loop decreases-loop
 same-length-2 c =
@@ -170,7 +170,7 @@ same-length-2 c =
     let t_loop = c1.loop in
     let c7 = c1.before.before.before.before.before.before.before.before in
     let t-pre = c7.requires in
-    t_loop.invariant.size-long ∙ sym t-pre.0.wood.as_long
+    t_loop.invariant.size_long ∙ sym t-pre.0.wood.as_long
 
 returns : tie.Need-returns invariant-loop decreases-loop
 returns c =

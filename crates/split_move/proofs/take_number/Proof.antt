@@ -45,7 +45,7 @@ set-requires c κs =
     let t-last = c5.last in
     let c9 = c5.before.before.before.before in
     let t-make-ready = c9.make-ready in
-    (t-remove.ensures.same_length ∙ t-make-ready.ensures.moves.sound.long, (let a = number_lt t-last.result t-make-ready.ensures.moves.sound (ready-some t-make-ready.ensures) t-last.ensures.0 in let b = t-make-ready.ensures.moves.sound.loose.islands-le in omega arith))
+    (t-remove.ensures.same_length ∙ t-make-ready.ensures.moves.sound.long, (let a = number_lt t-last.result t-make-ready.ensures.moves.sound (ready-some t-make-ready.ensures) t-last.ensures.0 in let b = t-make-ready.ensures.moves.sound.loose.islands_le in omega arith))
 
 same_length : tie.Need-same-length
 same_length c = search rules

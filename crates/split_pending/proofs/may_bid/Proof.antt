@@ -29,7 +29,7 @@ get-requires c κs =
     let t-is-live = c1.is_live in
     let c3 = c1.before.before in
     let t-pre = c3.requires in
-    (let l = (t-is-live.ensures.lives (not-false _ t-if1.false)).in_use in let b = t-pre.good.islands-le in (t-pre.long, omega arith))
+    (let l = (t-is-live.ensures.lives (not-false _ t-if1.false)).in_use in let b = t-pre.good.islands_le in (t-pre.long, omega arith))
 
 returns-2 : tie.Need-returns-2
 returns-2 c =
@@ -59,7 +59,7 @@ get-requires-2 c κs =
     let t-is-live = c3.is_live in
     let c5 = c3.before.before in
     let t-pre = c5.requires in
-    (let l = (t-is-live.ensures.lives (not-false _ t-if1.false)).in_use in let b = t-pre.good.islands-le in (t-pre.long, omega arith))
+    (let l = (t-is-live.ensures.lives (not-false _ t-if1.false)).in_use in let b = t-pre.good.islands_le in (t-pre.long, omega arith))
 
 get-requires-3 : tie.Need-get-requires-3
 get-requires-3 c κs = search rules

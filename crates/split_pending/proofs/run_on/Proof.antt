@@ -74,7 +74,7 @@ get-requires-3 c κs =
     let t-set2 = c6.set2 in
     let c14 = c6.before.before.before.before.before.before.before.before in
     let t-pre = c14.requires in
-    (let l = (t-is-live.ensures.lives (not-false _ t-if2.false)).in_use in let b = (cleared-steps t-pre.0 t-set2.ensures).does.sound.good.islands-le in ((cleared-steps t-pre.0 t-set2.ensures).does.sound.long, omega arith))
+    (let l = (t-is-live.ensures.lives (not-false _ t-if2.false)).in_use in let b = (cleared-steps t-pre.0 t-set2.ensures).does.sound.good.islands_le in ((cleared-steps t-pre.0 t-set2.ensures).does.sound.long, omega arith))
 
 same-length-3 : tie.Need-same-length-3
 same-length-3 c = search rules
@@ -110,7 +110,7 @@ body-count-requires c κs =
     let t-set2 = c9.set2 in
     let c17 = c9.before.before.before.before.before.before.before.before in
     let t-pre = c17.requires in
-    (let l = (t-is-live.ensures.lives (not-false _ t-if2.false)).in_use in let b = (cleared-steps t-pre.0 t-set2.ensures).does.sound.good.islands-le in ((cleared-steps t-pre.0 t-set2.ensures).does.sound.long, omega arith))
+    (let l = (t-is-live.ensures.lives (not-false _ t-if2.false)).in_use in let b = (cleared-steps t-pre.0 t-set2.ensures).does.sound.good.islands_le in ((cleared-steps t-pre.0 t-set2.ensures).does.sound.long, omega arith))
 
 cast-bodies : tie.Need-overflow-cast-bodies
 cast-bodies c = search rules
@@ -118,7 +118,7 @@ cast-bodies c = search rules
 split-live-requires : tie.Need-split-live-requires
 split-live-requires c κs =
     let c1 = c.before in
-    let t-body-count = c1.body-count in
+    let t-body-count = c1.body_count in
     let c6 = c1.before.before.before.before.before in
     let t-if2 = c6.if2 in
     let c7 = c6.before in

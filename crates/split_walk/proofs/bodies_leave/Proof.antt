@@ -26,13 +26,13 @@ count-requires : tie.Need-count-requires invariant-loop decreases-loop
 count-requires c κs =
     let c3 = c.before.before.before in
     let t-pre = c3.requires in
-    (t-pre.goals-are.loose.long, (let a = t-pre.goals-are.base-lt in let b = t-pre.goals-are.loose.loose.islands-le in omega arith))
+    (t-pre.goals_are.loose.long, (let a = t-pre.goals_are.base_lt in let b = t-pre.goals_are.loose.loose.islands_le in omega arith))
 
 last-requires : tie.Need-last-requires invariant-loop decreases-loop
 last-requires c κs =
     let c5 = c.before.before.before.before.before in
     let t-pre = c5.requires in
-    (t-pre.goals-are.loose.long, (let a = t-pre.goals-are.base-lt in let b = t-pre.goals-are.loose.loose.islands-le in omega arith))
+    (t-pre.goals_are.loose.long, (let a = t-pre.goals_are.base_lt in let b = t-pre.goals_are.loose.loose.islands_le in omega arith))
 
 loop-holds : tie.Need-loop-init invariant-loop decreases-loop
 loop-holds c =
@@ -58,7 +58,7 @@ cast-get c =
     let c9 = c2.before.before.before.before.before.before.before in
     let t-args = c9.args in
     let t-pre = c9.requires in
-    omega (arith, body-lt t-args.base t-args.keep t-args.goals.now t-pre t_loop.invariant t-loop-test.true, t_loop.invariant.went.sound.loose.members-wf.rules.n-small)
+    omega (arith, body-lt t-args.base t-args.keep t-args.goals.now t-pre t_loop.invariant t-loop-test.true, t_loop.invariant.went.sound.loose.members_wf.rules.n_small)
 
 mul-get : tie.Need-overflow-mul-get invariant-loop decreases-loop
 mul-get c =
@@ -69,7 +69,7 @@ mul-get c =
     let c9 = c2.before.before.before.before.before.before.before in
     let t-args = c9.args in
     let t-pre = c9.requires in
-    omega (arith, body-lt t-args.base t-args.keep t-args.goals.now t-pre t_loop.invariant t-loop-test.true, t_loop.invariant.went.sound.loose.members-wf.rules.n-small)
+    omega (arith, body-lt t-args.base t-args.keep t-args.goals.now t-pre t_loop.invariant t-loop-test.true, t_loop.invariant.went.sound.loose.members_wf.rules.n_small)
 
 add-get : tie.Need-overflow-add-get invariant-loop decreases-loop
 add-get c =
@@ -80,7 +80,7 @@ add-get c =
     let c9 = c2.before.before.before.before.before.before.before in
     let t-args = c9.args in
     let t-pre = c9.requires in
-    omega (arith, body-lt t-args.base t-args.keep t-args.goals.now t-pre t_loop.invariant t-loop-test.true, t_loop.invariant.went.sound.loose.members-wf.rules.n-small)
+    omega (arith, body-lt t-args.base t-args.keep t-args.goals.now t-pre t_loop.invariant t-loop-test.true, t_loop.invariant.went.sound.loose.members_wf.rules.n_small)
 
 get-requires : tie.Need-get-requires invariant-loop decreases-loop
 get-requires c κs =
@@ -91,7 +91,7 @@ get-requires c κs =
     let c9 = c2.before.before.before.before.before.before.before in
     let t-args = c9.args in
     let t-pre = c9.requires in
-    (t_loop.invariant.went.sound.long, (let a = body-lt t-args.base t-args.keep t-args.goals.now t-pre t_loop.invariant t-loop-test.true in let b = t_loop.invariant.went.sound.loose.slots-le in omega arith))
+    (t_loop.invariant.went.sound.long, (let a = body-lt t-args.base t-args.keep t-args.goals.now t-pre t_loop.invariant t-loop-test.true in let b = t_loop.invariant.went.sound.loose.slots_le in omega arith))
 
 cast-place : tie.Need-overflow-cast-place invariant-loop decreases-loop
 cast-place c =
@@ -174,7 +174,7 @@ same_length c =
     let t_loop = c1.loop in
     let c8 = c1.before.before.before.before.before.before.before in
     let t-pre = c8.requires in
-    t_loop.invariant.went.sound.long ∙ sym t-pre.goals-are.loose.long
+    t_loop.invariant.went.sound.long ∙ sym t-pre.goals_are.loose.long
 
 returns : tie.Need-returns invariant-loop decreases-loop
 returns c =

@@ -27,13 +27,13 @@ count-requires : tie.Need-count-requires invariant-loop decreases-loop
 count-requires c κs =
     let c3 = c.before.before.before in
     let t-pre = c3.requires in
-    (t-pre.loose.long, (let a = t-pre.base-lt in let b = t-pre.loose.loose.islands-le in omega arith))
+    (t-pre.loose.long, (let a = t-pre.base_lt in let b = t-pre.loose.loose.islands_le in omega arith))
 
 last-requires : tie.Need-last-requires invariant-loop decreases-loop
 last-requires c κs =
     let c5 = c.before.before.before.before.before in
     let t-pre = c5.requires in
-    (t-pre.loose.long, (let a = t-pre.base-lt in let b = t-pre.loose.loose.islands-le in omega arith))
+    (t-pre.loose.long, (let a = t-pre.base_lt in let b = t-pre.loose.loose.islands_le in omega arith))
 
 loop-holds : tie.Need-loop-init invariant-loop decreases-loop
 loop-holds c =
@@ -59,7 +59,7 @@ cast-get c =
     let c9 = c2.before.before.before.before.before.before.before in
     let t-args = c9.args in
     let t-pre = c9.requires in
-    omega (arith, (contact-at t-args.base t-args.goals.now t-pre t_loop.invariant t-loop-test.true).edge-lt, t_loop.invariant.went.sound.loose.contacts-wf.rules.n-small)
+    omega (arith, (contact-at t-args.base t-args.goals.now t-pre t_loop.invariant t-loop-test.true).edge_lt, t_loop.invariant.went.sound.loose.contacts_wf.rules.n_small)
 
 mul-get : tie.Need-overflow-mul-get invariant-loop decreases-loop
 mul-get c =
@@ -70,7 +70,7 @@ mul-get c =
     let c9 = c2.before.before.before.before.before.before.before in
     let t-args = c9.args in
     let t-pre = c9.requires in
-    omega (arith, (contact-at t-args.base t-args.goals.now t-pre t_loop.invariant t-loop-test.true).edge-lt, t_loop.invariant.went.sound.loose.contacts-wf.rules.n-small)
+    omega (arith, (contact-at t-args.base t-args.goals.now t-pre t_loop.invariant t-loop-test.true).edge_lt, t_loop.invariant.went.sound.loose.contacts_wf.rules.n_small)
 
 add-get : tie.Need-overflow-add-get invariant-loop decreases-loop
 add-get c =
@@ -81,7 +81,7 @@ add-get c =
     let c9 = c2.before.before.before.before.before.before.before in
     let t-args = c9.args in
     let t-pre = c9.requires in
-    omega (arith, (contact-at t-args.base t-args.goals.now t-pre t_loop.invariant t-loop-test.true).edge-lt, t_loop.invariant.went.sound.loose.contacts-wf.rules.n-small)
+    omega (arith, (contact-at t-args.base t-args.goals.now t-pre t_loop.invariant t-loop-test.true).edge_lt, t_loop.invariant.went.sound.loose.contacts_wf.rules.n_small)
 
 get-requires : tie.Need-get-requires invariant-loop decreases-loop
 get-requires c κs =
@@ -92,7 +92,7 @@ get-requires c κs =
     let c9 = c2.before.before.before.before.before.before.before in
     let t-args = c9.args in
     let t-pre = c9.requires in
-    (t_loop.invariant.went.sound.long, (let a = (contact-at t-args.base t-args.goals.now t-pre t_loop.invariant t-loop-test.true).edge-lt in let b = t_loop.invariant.went.sound.loose.edges_le in omega arith))
+    (t_loop.invariant.went.sound.long, (let a = (contact-at t-args.base t-args.goals.now t-pre t_loop.invariant t-loop-test.true).edge_lt in let b = t_loop.invariant.went.sound.loose.edges_le in omega arith))
 
 leave-contact-requires : tie.Need-leave-contact-requires invariant-loop decreases-loop
 leave-contact-requires c κs =

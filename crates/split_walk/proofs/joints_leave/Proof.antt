@@ -27,13 +27,13 @@ count-requires : tie.Need-count-requires invariant-loop decreases-loop
 count-requires c κs =
     let c3 = c.before.before.before in
     let t-pre = c3.requires in
-    (t-pre.loose.long, (let a = t-pre.base-lt in let b = t-pre.loose.loose.islands-le in omega arith))
+    (t-pre.loose.long, (let a = t-pre.base_lt in let b = t-pre.loose.loose.islands_le in omega arith))
 
 last-requires : tie.Need-last-requires invariant-loop decreases-loop
 last-requires c κs =
     let c5 = c.before.before.before.before.before in
     let t-pre = c5.requires in
-    (t-pre.loose.long, (let a = t-pre.base-lt in let b = t-pre.loose.loose.islands-le in omega arith))
+    (t-pre.loose.long, (let a = t-pre.base_lt in let b = t-pre.loose.loose.islands_le in omega arith))
 
 loop-holds : tie.Need-loop-init invariant-loop decreases-loop
 loop-holds c =
@@ -59,7 +59,7 @@ cast-get c =
     let c9 = c2.before.before.before.before.before.before.before in
     let t-args = c9.args in
     let t-pre = c9.requires in
-    omega (arith, (joint-at t-args.base t-args.goals.now t-pre t_loop.invariant t-loop-test.true).place-lt, t_loop.invariant.went.sound.loose.joints-wf.rules.n-small)
+    omega (arith, (joint-at t-args.base t-args.goals.now t-pre t_loop.invariant t-loop-test.true).place_lt, t_loop.invariant.went.sound.loose.joints_wf.rules.n_small)
 
 mul-get : tie.Need-overflow-mul-get invariant-loop decreases-loop
 mul-get c =
@@ -70,7 +70,7 @@ mul-get c =
     let c9 = c2.before.before.before.before.before.before.before in
     let t-args = c9.args in
     let t-pre = c9.requires in
-    omega (arith, (joint-at t-args.base t-args.goals.now t-pre t_loop.invariant t-loop-test.true).place-lt, t_loop.invariant.went.sound.loose.joints-wf.rules.n-small)
+    omega (arith, (joint-at t-args.base t-args.goals.now t-pre t_loop.invariant t-loop-test.true).place_lt, t_loop.invariant.went.sound.loose.joints_wf.rules.n_small)
 
 add-get : tie.Need-overflow-add-get invariant-loop decreases-loop
 add-get c =
@@ -81,7 +81,7 @@ add-get c =
     let c9 = c2.before.before.before.before.before.before.before in
     let t-args = c9.args in
     let t-pre = c9.requires in
-    omega (arith, (joint-at t-args.base t-args.goals.now t-pre t_loop.invariant t-loop-test.true).place-lt, t_loop.invariant.went.sound.loose.joints-wf.rules.n-small)
+    omega (arith, (joint-at t-args.base t-args.goals.now t-pre t_loop.invariant t-loop-test.true).place_lt, t_loop.invariant.went.sound.loose.joints_wf.rules.n_small)
 
 get-requires : tie.Need-get-requires invariant-loop decreases-loop
 get-requires c κs =
@@ -92,7 +92,7 @@ get-requires c κs =
     let c9 = c2.before.before.before.before.before.before.before in
     let t-args = c9.args in
     let t-pre = c9.requires in
-    (t_loop.invariant.went.sound.long, (let a = (joint-at t-args.base t-args.goals.now t-pre t_loop.invariant t-loop-test.true).place-lt in let b = t_loop.invariant.went.sound.loose.joints-le in omega arith))
+    (t_loop.invariant.went.sound.long, (let a = (joint-at t-args.base t-args.goals.now t-pre t_loop.invariant t-loop-test.true).place_lt in let b = t_loop.invariant.went.sound.loose.joints_le in omega arith))
 
 leave-joint-requires : tie.Need-leave-joint-requires invariant-loop decreases-loop
 leave-joint-requires c κs =

@@ -6,22 +6,22 @@ use Rattle.table_audit.proofs.chains_sound.Statement.{statement}
 use Rattle.table_audit.proofs.chains_sound.Tie as tie
 
 returns : tie.Need-returns
-returns c = fails c.before.chains-hold.ensures c.if1.true (λ w. w.members-wf)
+returns c = fails c.before.chains-hold.ensures c.if1.true (λ w. w.members_wf)
 
 returns-2 : tie.Need-returns-2
-returns-2 c = fails c.before.chains-hold2.ensures c.if2.true (λ w. w.freed-wf)
+returns-2 c = fails c.before.chains-hold2.ensures c.if2.true (λ w. w.freed_wf)
 
 returns-3 : tie.Need-returns-3
-returns-3 c = fails c.before.chains-hold3.ensures c.if3.true (λ w. w.contacts-wf)
+returns-3 c = fails c.before.chains-hold3.ensures c.if3.true (λ w. w.contacts_wf)
 
 returns-4 : tie.Need-returns-4
-returns-4 c = fails c.before.chains-hold4.ensures c.if4.true (λ w. w.joints-wf)
+returns-4 c = fails c.before.chains-hold4.ensures c.if4.true (λ w. w.joints_wf)
 
 returns-5 : tie.Need-returns-5
-returns-5 c = fails c.before.chains-hold5.ensures c.if5.true (λ w. w.spare-wf)
+returns-5 c = fails c.before.chains-hold5.ensures c.if5.true (λ w. w.spare_wf)
 
 returns-6 : tie.Need-returns-6
-returns-6 c = fails c.before.chains-hold6.ensures c.if6.true (λ w. w.scan-wf)
+returns-6 c = fails c.before.chains-hold6.ensures c.if6.true (λ w. w.scan_wf)
 
 returns-7 : tie.Need-returns-7
 returns-7 c =
@@ -50,12 +50,12 @@ returns-7 c =
     let t-chains-hold = c11.chains-hold in
     is-yes
     (record {
-      members-wf = passes t-chains-hold.ensures t-if1.false;
-      freed-wf = passes t-chains-hold2.ensures t-if2.false;
-      contacts-wf = passes t-chains-hold3.ensures t-if3.false;
-      joints-wf = passes t-chains-hold4.ensures t-if4.false;
-      spare-wf = passes t-chains-hold5.ensures t-if5.false;
-      scan-wf = passes t-chains-hold6.ensures t-if6.false;
+      members_wf = passes t-chains-hold.ensures t-if1.false;
+      freed_wf = passes t-chains-hold2.ensures t-if2.false;
+      contacts_wf = passes t-chains-hold3.ensures t-if3.false;
+      joints_wf = passes t-chains-hold4.ensures t-if4.false;
+      spare_wf = passes t-chains-hold5.ensures t-if5.false;
+      scan_wf = passes t-chains-hold6.ensures t-if6.false;
     })
 
 pub chains-sound-spec : {M : Type 1} → statement M

@@ -2,7 +2,7 @@
 use mathlib.Core.Path.{sym, ◌∙◌}
 use borrow.Author.Rules.{rules}
 use Prim.Native.Nat.{◌-◌}
-use Rattle.table_meaning.specs.Layout.{tables, joints-in}
+use Rattle.table_meaning.specs.Layout.{tables, joints_in}
 use Rattle.list_audit.proofs.Laws.{is-yes}
 use Rattle.table_audit.specs.Parts.{Other}
 use Rattle.table_audit.proofs.Laws.{Passed, none_passed, one_more, all-passed, passes, fails}
@@ -10,7 +10,7 @@ use Rattle.table_audit.proofs.is_new.Statement.{statement}
 use Rattle.table_audit.proofs.is_new.Tie as tie
 
 abbrev invariant-loop : tie.invariant-loop
-invariant-loop t z p q₀ q = Passed (Other (joints-in z (tables z t)).home (tables z t).keys p) q p
+invariant-loop t z p q₀ q = Passed (Other (joints_in z (tables z t)).home (tables z t).keys p) q p
 
 abbrev decreases-loop : tie.decreases-loop
 decreases-loop t z p q₀ q = p - q

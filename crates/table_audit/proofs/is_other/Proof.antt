@@ -1,4 +1,4 @@
--- `table_audit::is_other` meets its contract. What `same_key` answers, turned round. Assumes nothing.
+-- `table_audit::is_other` meets its contract. What `same_key-refl` answers, turned round. Assumes nothing.
 use mathlib.Core.Path.{sym, ◌∙◌}
 use mathlib.Core.Bool.{false≢true}
 use Rattle.list_audit.proofs.Laws.{is-yes, is-no}
@@ -10,10 +10,10 @@ returns : tie.Need-returns
 returns c = is-yes (λ l. absurd (l (sym c.before.home.ensures.0 ∙ c.if1.true)))
 
 returns-2 : tie.Need-returns-2
-returns-2 c = is-no (λ o. o (λ e. c.before.before.if1.false (c.before.before.before.home.ensures.0 ∙ e)) (c.before.same_key.ensures.0 c.if2.true))
+returns-2 c = is-no (λ o. o (λ e. c.before.before.if1.false (c.before.before.before.home.ensures.0 ∙ e)) (c.before.same_key-refl.ensures.0 c.if2.true))
 
 returns-3 : tie.Need-returns-3
-returns-3 c = is-yes (λ _ s. false≢true (sym c.if2.false ∙ c.before.same_key.ensures.1 s))
+returns-3 c = is-yes (λ _ s. false≢true (sym c.if2.false ∙ c.before.same_key-refl.ensures.1 s))
 
 pub is-other-spec : {M : Type 1} → statement M
 is-other-spec =

@@ -1,7 +1,7 @@
 -- `table_audit::keys_differ` meets its contract. The invariant: every place passed is new. Places that are each new differ pairwise. Assumes nothing.
 use borrow.Author.Rules.{rules}
 use Prim.Native.Nat.{◌-◌}
-use Rattle.table_meaning.specs.Layout.{tables, joints-in}
+use Rattle.table_meaning.specs.Layout.{tables, joints_in}
 use Rattle.list_audit.proofs.Laws.{is-yes}
 use Rattle.table_audit.specs.Parts.{New}
 use Rattle.table_audit.proofs.Laws.{Passed, none_passed, one_more, all-passed, passes, fails, all-differ, all_new}
@@ -9,7 +9,7 @@ use Rattle.table_audit.proofs.keys_differ.Statement.{statement}
 use Rattle.table_audit.proofs.keys_differ.Tie as tie
 
 abbrev invariant-loop : tie.invariant-loop
-invariant-loop t z n p₀ p = Passed (New (joints-in z (tables z t)).home (tables z t).keys) p n
+invariant-loop t z n p₀ p = Passed (New (joints_in z (tables z t)).home (tables z t).keys) p n
 
 abbrev decreases-loop : tie.decreases-loop
 decreases-loop t z n p₀ p = n - p

@@ -1,9 +1,9 @@
--- `table_audit::same_key` meets its contract. One test a word. Assumes nothing.
+-- `table_audit::same_key-refl` meets its contract. One test a word. Assumes nothing.
 use native.Mathlib.Omega.{arith}
 use Rattle.list_audit.proofs.Laws.{is-no}
 use borrow.Author.Rules.{rules}
-use Rattle.table_audit.proofs.same_key.Statement.{statement}
-use Rattle.table_audit.proofs.same_key.Tie as tie
+use Rattle.table_audit.proofs.same_key-refl.Statement.{statement}
+use Rattle.table_audit.proofs.same_key-refl.Tie as tie
 
 returns : tie.Need-returns
 returns c =

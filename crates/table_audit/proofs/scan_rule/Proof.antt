@@ -6,7 +6,7 @@ use Rattle.table_audit.proofs.scan_rule.Statement.{statement}
 use Rattle.table_audit.proofs.scan_rule.Tie as tie
 
 returns-4 : tie.Need-returns-4
-returns-4 c = is-yes (inr (record { listed = c.before.if1.false; fit-flag = omega arith }))
+returns-4 c = is-yes (inr (record { listed = c.before.if1.false; fit_flag = omega arith }))
 
 pub scan-rule-spec : {M : Type 1} → statement M
 scan-rule-spec =

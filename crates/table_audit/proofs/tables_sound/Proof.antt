@@ -11,7 +11,7 @@ returns c = fails c.before.extents-fit.ensures c.if1.true (within_of c.before.be
 chains-sound-requires : tie.Need-chains-sound-requires
 chains-sound-requires c κs =
     let w = passes c.before.extents-fit.ensures c.if1.false in
-    (c.before.before.before.requires.0, w.slots-le, w.islands-le, w.edges_le, w.joints-le)
+    (c.before.before.before.requires.0, w.slots_le, w.islands_le, w.edges_le, w.joints_le)
 
 returns-2 : tie.Need-returns-2
 returns-2 c =
@@ -31,7 +31,7 @@ entries-sound-requires c κs =
     let c5 = c3.before.before in
     let t-pre = c5.requires in
     let w = passes t-extents-fit.ensures t-if1.false in
-    (t-pre.0, w.slots-le, w.islands-le, w.edges_le, w.joints-le)
+    (t-pre.0, w.slots_le, w.islands_le, w.edges_le, w.joints_le)
 
 returns-3 : tie.Need-returns-3
 returns-3 c =
@@ -54,7 +54,7 @@ keys-differ-requires c κs =
     let c9 = c7.before.before in
     let t-pre = c9.requires in
     let w = passes t-extents-fit.ensures t-if1.false in
-    (t-pre.0, w.joints-le)
+    (t-pre.0, w.joints_le)
 
 returns-5 : tie.Need-returns-5
 returns-5 c =

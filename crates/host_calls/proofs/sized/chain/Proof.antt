@@ -4,8 +4,8 @@ use mathlib.Core.Path.{◌≡◌, refl, sym, ◌∙◌, ap, subst}
 use Prim.Native.Nat.{ℕ, ◌/◌, ◌%◌, ◌*◌, ◌<◌, ◌≤◌}
 use lib.ListN.{length}
 use Rattle.def_kinds.specs.declared.Answer.TheVariants.{JointsFull}
-use Rattle.table_meaning.specs.Decode.{worldOf}
-use Rattle.core_laws.specs.Chaining.{handlesFrom}
+use Rattle.table_meaning.specs.Decode.{world_of}
+use Rattle.core_laws.specs.Chaining.{handles_from}
 use Rattle.core_laws.proofs.Then.{refused}
 use Rattle.core_laws.proofs.Chaining.{handles-length, refresh-long}
 use borrow.Author.Rules.{rules}
@@ -49,7 +49,7 @@ returns-2 c =
     let c7 = c3.before.before.before.before in
     let t-args = c7.args in
     let e = handles-length t-args.list.now 0 (length t-args.list.now / 2) in
-    call-yes t-args.z _ t-args.t.now _ t-sound.ensures t-if1.false (refused _ JointsFull (sound-is t-args.z t-args.t.now _ t-sound.ensures t-if1.false) (refresh-long t-args.z (t-args.multibody / 4294967296) (t-args.multibody % 4294967296) (handlesFrom t-args.list.now 0 (length t-args.list.now / 2)) (worldOf t-args.z t-args.t.now) (omega (arith, t-if2.true))))
+    call-yes t-args.z _ t-args.t.now _ t-sound.ensures t-if1.false (refused _ JointsFull (sound-is t-args.z t-args.t.now _ t-sound.ensures t-if1.false) (refresh-long t-args.z (t-args.multibody / 4294967296) (t-args.multibody % 4294967296) (handles_from t-args.list.now 0 (length t-args.list.now / 2)) (world_of t-args.z t-args.t.now) (omega (arith, t-if2.true))))
 
 high-half-requires : tie.Need-high-half-requires
 high-half-requires c κs = search rules

@@ -1,6 +1,6 @@
 use Rattle.def_state.specs.Bodies.{island}
 use Rattle.core_laws.specs.Steps.{handle}
-use Rattle.host_calls.specs.Refusal.{refusedIsland}
+use Rattle.host_calls.specs.Refusal.{refused_island}
 use Rattle.host_calls.proofs.Laws.{sound-is, call-no, call-yes, asks-no, asks-yes}
 use borrow.Author.Rules.{rules}
 use Rattle.host_calls.proofs.sized.island.Statement.{statement}
@@ -20,7 +20,7 @@ returns c =
     let t-sound = c1.sound in
     let c3 = c1.before.before in
     let t-args = c3.args in
-    asks-no t-args.z (island (handle t-args.s t-args.g)) refusedIsland t-args.t.now _ t-sound.ensures t-if1.true
+    asks-no t-args.z (island (handle t-args.s t-args.g)) refused_island t-args.t.now _ t-sound.ensures t-if1.true
 
 island-on-requires : tie.Need-island-on-requires
 island-on-requires c κs =
@@ -40,7 +40,7 @@ returns-2 c =
     let t-sound = c2.sound in
     let c4 = c2.before.before in
     let t-args = c4.args in
-    asks-yes t-args.z (island (handle t-args.s t-args.g)) refusedIsland t-args.t.now _ t-sound.ensures t-if1.false t-island-on.ensures
+    asks-yes t-args.z (island (handle t-args.s t-args.g)) refused_island t-args.t.now _ t-sound.ensures t-if1.false t-island-on.ensures
 
 pub island-spec : {M : Type 1} → statement M
 island-spec = tie.close (tie.spec sound-requires returns island-on-requires returns-2)

@@ -1,4 +1,4 @@
-use Rattle.host_calls.specs.Refusal.{mayBid, refusedBid}
+use Rattle.host_calls.specs.Refusal.{may_bid, refused_bid}
 use Rattle.host_calls.proofs.Laws.{sound-is, call-no, call-yes, asks-no, asks-yes, bid-is}
 use borrow.Author.Rules.{rules}
 use Rattle.host_calls.proofs.sized.may_bid.Statement.{statement}
@@ -18,7 +18,7 @@ returns c =
     let t-sound = c1.sound in
     let c3 = c1.before.before in
     let t-args = c3.args in
-    asks-no t-args.z (mayBid t-args.i) refusedBid t-args.t.now _ t-sound.ensures t-if1.true
+    asks-no t-args.z (may_bid t-args.i) refused_bid t-args.t.now _ t-sound.ensures t-if1.true
 
 may-bid-requires : tie.Need-may-bid-requires
 may-bid-requires c κs =
@@ -38,7 +38,7 @@ returns-2 c =
     let t-sound = c2.sound in
     let c4 = c2.before.before in
     let t-args = c4.args in
-    asks-yes t-args.z (mayBid t-args.i) refusedBid t-args.t.now _ t-sound.ensures t-if1.false (bid-is t-args.i _ t-may-bid.ensures)
+    asks-yes t-args.z (may_bid t-args.i) refused_bid t-args.t.now _ t-sound.ensures t-if1.false (bid-is t-args.i _ t-may-bid.ensures)
 
 pub may-bid-spec : {M : Type 1} → statement M
 may-bid-spec = tie.close (tie.spec sound-requires returns may-bid-requires returns-2)

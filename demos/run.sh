@@ -6,7 +6,7 @@ root=$(cd "$here/.." && pwd)
 . "$root/tools/need.sh"
 need python3 python3
 lesson=${LESSON:-$root/target/bin/lesson}
-[ -x "$lesson" ] || (cd "$root" && rt check lesson)
+[ -x "$lesson" ] || "$root/tools/build.sh" lesson
 bad=0 good=0
 for script in "$here"/*.txt; do
     name=${script%.txt}

@@ -7,7 +7,7 @@
  * whatever they hold. (Well formed is what document 01 says, and that the words are tidy: docs/EXCEPTIONS.md lists
  * what that asks.) An answer above 1 changes no word, nor the output.
  *
- * Link with target/staticlib/libashwoodrung.a, which `rt staticlib ashwoodrung` writes (x86-64 Linux). It needs no other library.
+ * Link with target/staticlib/libashwoodrung.a, which `tools/build.sh archive` writes (x86-64 Linux). It needs no other library.
  *
  * What the caller owes, as with any C function that takes pointers:
  *   - a pointer and the length behind it (in words, not bytes) name one array of uint32_t, aligned as uint32_t is; a length that is wrong

@@ -14,7 +14,7 @@ seeds=${1:?usage: compare.sh SEEDS [FIRST]} first=${2:-1}
 lesson=${LESSON:-$root/target/bin/lesson}
 need_rust
 need python3 python3
-[ -x "$lesson" ] || (cd "$root" && rt check lesson)
+[ -x "$lesson" ] || "$root/tools/build.sh" lesson
 (cd "$here" && cargo build --release --offline --quiet)
 
 work=$(mktemp -d)

@@ -45,7 +45,6 @@ need_archive() {
     newer=$(find "$1/crates" -path '*/src/*.rt' ! -path '*/lesson*' ! -path '*/test_*' -newer "$archive" -print -quit 2>&1 || true)
     if [ -z "$newer" ]; then return; fi
     command -v rt > /dev/null || { echo "no $archive and no rt to build it: the Rattle kit has rt" >&2; exit 1; }
-    echo "building target/staticlib/libashwoodrung.a: rt staticlib ashwoodrung" >&2
-    local said
-    said=$(cd "$1" && rt staticlib ashwoodrung 2>&1) || { echo "$said" | tail -30 >&2; exit 1; }
+    echo "building target/staticlib/libashwoodrung.a: tools/build.sh archive" >&2
+    "$1/tools/build.sh" archive
 }

@@ -1,4 +1,4 @@
-//! Links `libashwoodrung.a`, the proved static library, which `rt staticlib ashwoodrung` writes to the repository's `target/staticlib`. Another folder
+//! Links `libashwoodrung.a`, the proved static library, which `tools/build.sh archive` writes to the repository's `target/staticlib`. Another folder
 //! is named by the environment variable ASHWOODRUNG_LIB.
 
 use std::env;
@@ -15,7 +15,7 @@ fn main() {
     println!("cargo:rerun-if-changed={}", archive.display());
     if !archive.is_file() {
         eprintln!(
-            "no {}: build it with `rt staticlib ashwoodrung` in the repository, or name its folder in ASHWOODRUNG_LIB",
+            "no {}: build it with `tools/build.sh archive` in the repository, or name its folder in ASHWOODRUNG_LIB",
             archive.display()
         );
         std::process::exit(1);

@@ -1,5 +1,5 @@
 #!/usr/bin/env bash
-# run.sh: every lesson here against what it should print. Ends with 'K lessons, D differences'. Wants target/bin/lesson (rt check lesson).
+# run.sh: every lesson here against what it should print. Ends with 'K lessons, D differences'. Wants target/bin/lesson (tools/build.sh lesson).
 set -u
 cd "$(dirname "$0")"
 lessons=0 different=0

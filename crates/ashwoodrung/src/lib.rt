@@ -1,9 +1,11 @@
 // The rig's calls for C and Rust programs: numbers and slices only. An answer is document 01's number; a flag is yes unless it is 0;
 // a call that gives a value beside its answer gives both in one number of 64 bits, the answer in its high half.
 // include/ashwoodrung.h says what each call means.
+#![tactic(auto)]
+
 ghost use Rattle.std.specs.Prelude.{◌≡◌, ◌/◌, ◌%◌, length};
 ghost use Rattle.def_kinds.specs.Number.{number, rig};
-ghost use Rattle.def_state.specs.World.{impulse as impulseKey, chain as chainKey};
+ghost use Rattle.def_state.specs.World.{impulse as impulse_key, chain as chain_key};
 ghost use Rattle.def_state.specs.Bodies.{put, flags, retire, island as island_of};
 ghost use Rattle.def_state.specs.Membership.{ensure, remove};
 ghost use Rattle.def_state.specs.Links.{link_contact, unlink_contact, contact_edge_removed, link_joint, unlink_joint};
@@ -30,16 +32,14 @@ fn both(answer: Answer, value: u32) -> u64
     (answer.number() as u64) * 4294967296 + (value as u64)
 }
 
-#[unsafe(no_mangle)]
-pub extern "C" fn ashwoodrung_reset(t: &mut [u32]) -> u32
+pub fn ashwoodrung_reset(t: &mut [u32]) -> u32
     ensures { ToldReset t.old result t.new }
 {
     let a = host_calls::reset(t);
     a.number()
 }
 
-#[unsafe(no_mangle)]
-pub extern "C" fn ashwoodrung_put(
+pub fn ashwoodrung_put(
     t: &mut [u32],
     slot: u32,
     generation: u32,
@@ -60,8 +60,7 @@ pub extern "C" fn ashwoodrung_put(
     a.number()
 }
 
-#[unsafe(no_mangle)]
-pub extern "C" fn ashwoodrung_flags(
+pub fn ashwoodrung_flags(
     t: &mut [u32],
     slot: u32,
     generation: u32,
@@ -82,8 +81,7 @@ pub extern "C" fn ashwoodrung_flags(
     a.number()
 }
 
-#[unsafe(no_mangle)]
-pub extern "C" fn ashwoodrung_ensure(t: &mut [u32], slot: u32, generation: u32) -> u32
+pub fn ashwoodrung_ensure(t: &mut [u32], slot: u32, generation: u32) -> u32
     ensures { Told (ensure (handle slot generation)) t.old result t.new }
 {
     let h = Handle {
@@ -94,8 +92,7 @@ pub extern "C" fn ashwoodrung_ensure(t: &mut [u32], slot: u32, generation: u32) 
     a.number()
 }
 
-#[unsafe(no_mangle)]
-pub extern "C" fn ashwoodrung_remove(t: &mut [u32], slot: u32, generation: u32) -> u32
+pub fn ashwoodrung_remove(t: &mut [u32], slot: u32, generation: u32) -> u32
     ensures { Told (remove (handle slot generation)) t.old result t.new }
 {
     let h = Handle {
@@ -106,8 +103,7 @@ pub extern "C" fn ashwoodrung_remove(t: &mut [u32], slot: u32, generation: u32) 
     a.number()
 }
 
-#[unsafe(no_mangle)]
-pub extern "C" fn ashwoodrung_retire(t: &mut [u32], slot: u32, generation: u32) -> u32
+pub fn ashwoodrung_retire(t: &mut [u32], slot: u32, generation: u32) -> u32
     ensures { Told (retire (handle slot generation)) t.old result t.new }
 {
     let h = Handle {
@@ -118,8 +114,7 @@ pub extern "C" fn ashwoodrung_retire(t: &mut [u32], slot: u32, generation: u32) 
     a.number()
 }
 
-#[unsafe(no_mangle)]
-pub extern "C" fn ashwoodrung_island(t: &[u32], slot: u32, generation: u32) -> u64
+pub fn ashwoodrung_island(t: &[u32], slot: u32, generation: u32) -> u64
     ensures { ToldIsland (island_of (handle slot generation)) t.now result }
 {
     let h = Handle {
@@ -132,8 +127,7 @@ pub extern "C" fn ashwoodrung_island(t: &[u32], slot: u32, generation: u32) -> u
     both(answer, island.0)
 }
 
-#[unsafe(no_mangle)]
-pub extern "C" fn ashwoodrung_contact(
+pub fn ashwoodrung_contact(
     t: &mut [u32],
     edge: u32,
     slot1: u32,
@@ -155,24 +149,21 @@ pub extern "C" fn ashwoodrung_contact(
     a.number()
 }
 
-#[unsafe(no_mangle)]
-pub extern "C" fn ashwoodrung_uncontact(t: &mut [u32], edge: u32) -> u32
+pub fn ashwoodrung_uncontact(t: &mut [u32], edge: u32) -> u32
     ensures { Told (unlink_contact rig edge) t.old result t.new }
 {
     let a = host_calls::uncontact(t, Edge(edge));
     a.number()
 }
 
-#[unsafe(no_mangle)]
-pub extern "C" fn ashwoodrung_renumber(t: &mut [u32], removed: u32, last: u32) -> u32
+pub fn ashwoodrung_renumber(t: &mut [u32], removed: u32, last: u32) -> u32
     ensures { Told (contact_edge_removed removed last) t.old result t.new }
 {
     let a = host_calls::renumber(t, Edge(removed), Edge(last));
     a.number()
 }
 
-#[unsafe(no_mangle)]
-pub extern "C" fn ashwoodrung_joint_impulse(
+pub fn ashwoodrung_joint_impulse(
     t: &mut [u32],
     index: u32,
     generation: u32,
@@ -181,7 +172,7 @@ pub extern "C" fn ashwoodrung_joint_impulse(
     slot2: u32,
     generation2: u32,
 ) -> u32
-    ensures { Told (link_joint rig (impulseKey index generation) (handle slot1 generation1) (handle slot2 generation2)) t.old result t.new }
+    ensures { Told (link_joint rig (impulse_key index generation) (handle slot1 generation1) (handle slot2 generation2)) t.old result t.new }
 {
     let h1 = Handle {
         slot: Slot(slot1),
@@ -196,8 +187,7 @@ pub extern "C" fn ashwoodrung_joint_impulse(
     a.number()
 }
 
-#[unsafe(no_mangle)]
-pub extern "C" fn ashwoodrung_joint_chain(
+pub fn ashwoodrung_joint_chain(
     t: &mut [u32],
     multibody: u64,
     ordinal: u32,
@@ -206,7 +196,7 @@ pub extern "C" fn ashwoodrung_joint_chain(
     slot2: u32,
     generation2: u32,
 ) -> u32
-    ensures { Told (link_joint rig (chainKey (multibody / 4294967296) (multibody % 4294967296) ordinal) (handle slot1 generation1) (handle slot2 generation2)) t.old result t.new }
+    ensures { Told (link_joint rig (chain_key (multibody / 4294967296) (multibody % 4294967296) ordinal) (handle slot1 generation1) (handle slot2 generation2)) t.old result t.new }
 {
     let h1 = Handle {
         slot: Slot(slot1),
@@ -221,18 +211,16 @@ pub extern "C" fn ashwoodrung_joint_chain(
     a.number()
 }
 
-#[unsafe(no_mangle)]
-pub extern "C" fn ashwoodrung_unjoint_impulse(t: &mut [u32], index: u32, generation: u32) -> u32
-    ensures { Told (unlink_joint rig (impulseKey index generation)) t.old result t.new }
+pub fn ashwoodrung_unjoint_impulse(t: &mut [u32], index: u32, generation: u32) -> u32
+    ensures { Told (unlink_joint rig (impulse_key index generation)) t.old result t.new }
 {
     let key = JointKey::Impulse { index, generation };
     let a = host_calls::unjoint(t, key);
     a.number()
 }
 
-#[unsafe(no_mangle)]
-pub extern "C" fn ashwoodrung_unjoint_chain(t: &mut [u32], multibody: u64, ordinal: u32) -> u32
-    ensures { Told (unlink_joint rig (chainKey (multibody / 4294967296) (multibody % 4294967296) ordinal)) t.old result t.new }
+pub fn ashwoodrung_unjoint_chain(t: &mut [u32], multibody: u64, ordinal: u32) -> u32
+    ensures { Told (unlink_joint rig (chain_key (multibody / 4294967296) (multibody % 4294967296) ordinal)) t.old result t.new }
 {
     let key = JointKey::Chain { multibody, ordinal };
     let a = host_calls::unjoint(t, key);
@@ -240,48 +228,42 @@ pub extern "C" fn ashwoodrung_unjoint_chain(t: &mut [u32], multibody: u64, ordin
 }
 
 // The list has two words a handle, its slot and its generation.
-#[unsafe(no_mangle)]
-pub extern "C" fn ashwoodrung_chain(t: &mut [u32], multibody: u64, list: &[u32]) -> u32
+pub fn ashwoodrung_chain(t: &mut [u32], multibody: u64, list: &[u32]) -> u32
     ensures { Told (refresh_multibody_chain rig (multibody / 4294967296) (multibody % 4294967296) (handles_from list.now 0 (length list.now / 2))) t.old result t.new }
 {
     let a = host_calls::chain(t, multibody, list);
     a.number()
 }
 
-#[unsafe(no_mangle)]
-pub extern "C" fn ashwoodrung_resolve(t: &mut [u32]) -> u32
+pub fn ashwoodrung_resolve(t: &mut [u32]) -> u32
     ensures { Told (resolve_removals) t.old result t.new }
 {
     let a = host_calls::resolve(t);
     a.number()
 }
 
-#[unsafe(no_mangle)]
-pub extern "C" fn ashwoodrung_split(t: &mut [u32], island: u32) -> u32
+pub fn ashwoodrung_split(t: &mut [u32], island: u32) -> u32
     ensures { Told (split_island_now island) t.old result t.new }
 {
     let a = host_calls::split(t, Island(island));
     a.number()
 }
 
-#[unsafe(no_mangle)]
-pub extern "C" fn ashwoodrung_schedule(t: &mut [u32], island: u32) -> u32
+pub fn ashwoodrung_schedule(t: &mut [u32], island: u32) -> u32
     ensures { Told (schedule_split island) t.old result t.new }
 {
     let a = host_calls::schedule(t, Island(island));
     a.number()
 }
 
-#[unsafe(no_mangle)]
-pub extern "C" fn ashwoodrung_run(t: &mut [u32]) -> u32
+pub fn ashwoodrung_run(t: &mut [u32]) -> u32
     ensures { Told run_pending_split t.old result t.new }
 {
     let a = host_calls::run(t);
     a.number()
 }
 
-#[unsafe(no_mangle)]
-pub extern "C" fn ashwoodrung_may_bid(t: &[u32], island: u32) -> u64
+pub fn ashwoodrung_may_bid(t: &[u32], island: u32) -> u64
     ensures { ToldBid (may_bid island) t.now result }
 {
     let a = host_calls::may_bid(t, Island(island));
@@ -291,16 +273,14 @@ pub extern "C" fn ashwoodrung_may_bid(t: &[u32], island: u32) -> u64
     both(answer, y)
 }
 
-#[unsafe(no_mangle)]
-pub extern "C" fn ashwoodrung_begin(t: &mut [u32]) -> u32
+pub fn ashwoodrung_begin(t: &mut [u32]) -> u32
     ensures { Told begin_sleep_scan t.old result t.new }
 {
     let a = host_calls::begin(t);
     a.number()
 }
 
-#[unsafe(no_mangle)]
-pub extern "C" fn ashwoodrung_observe(t: &mut [u32], island: u32, eligible: u32) -> u32
+pub fn ashwoodrung_observe(t: &mut [u32], island: u32, eligible: u32) -> u32
     ensures { Told (observe_body_for_sleep island (is_set eligible)) t.old result t.new }
 {
     let e = is_set(eligible);
@@ -308,8 +288,7 @@ pub extern "C" fn ashwoodrung_observe(t: &mut [u32], island: u32, eligible: u32)
     a.number()
 }
 
-#[unsafe(no_mangle)]
-pub extern "C" fn ashwoodrung_finish(t: &mut [u32], out: &mut [u32]) -> u64
+pub fn ashwoodrung_finish(t: &mut [u32], out: &mut [u32]) -> u64
     ensures { ToldList t.old out.old result t.new out.new }
 {
     let a = host_calls::finish(t, out);
@@ -318,16 +297,14 @@ pub extern "C" fn ashwoodrung_finish(t: &mut [u32], out: &mut [u32]) -> u64
     both(answer, length)
 }
 
-#[unsafe(no_mangle)]
-pub extern "C" fn ashwoodrung_sleep(t: &mut [u32], island: u32) -> u32
+pub fn ashwoodrung_sleep(t: &mut [u32], island: u32) -> u32
     ensures { Told (mark_island_sleeping island) t.old result t.new }
 {
     let a = host_calls::sleep(t, Island(island));
     a.number()
 }
 
-#[unsafe(no_mangle)]
-pub extern "C" fn ashwoodrung_wake(t: &mut [u32], island: u32) -> u32
+pub fn ashwoodrung_wake(t: &mut [u32], island: u32) -> u32
     ensures { Told (wake_island island) t.old result t.new }
 {
     let a = host_calls::wake(t, Island(island));

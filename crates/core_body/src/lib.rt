@@ -1,4 +1,6 @@
 // The body table on sound tables: whom a handle names, put, flags; the words of a slot.
+#![tactic(auto)]
+
 ghost use Rattle.std.specs.Prelude.{◌≡◌, ℕ, ◌+◌, ◌*◌, ◌<◌, ◌≤◌};
 ghost use Rattle.list_in_table.specs.Rules.{none};
 ghost use Rattle.def_state.specs.World.{named};

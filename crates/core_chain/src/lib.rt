@@ -1,4 +1,6 @@
 // Chain refresh: the old chain of a multibody is unlinked, then a new one is linked over the given bodies.
+#![tactic(auto)]
+
 ghost use Rattle.std.specs.Prelude.{◌≡◌, ◌*◌, ◌<◌, ◌≤◌, length};
 ghost use Rattle.list_in_table.specs.Rules.{none};
 ghost use Rattle.def_state.specs.Chain.{chainable, chained, old_length, unlinked, linked_all, refresh_multibody_chain};
@@ -89,7 +91,7 @@ fn unlink_chain(t: &mut [u32], z: Sizes, high: u32, low: u32, n: u32)
 }
 
 // How far a new chain has come: the body that was linked last, the absent handle where there is none, and the next ordinal.
-#[derive(Drop)]
+#[derive(Clone, Copy)]
 struct Linking {
     last: Handle,
     ordinal: u32,

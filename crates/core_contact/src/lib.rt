@@ -1,4 +1,6 @@
 // Contact links on sound tables: the tracked length, one link comes or goes, the journal, contact unlink; and the island of a handle.
+#![tactic(auto)]
+
 ghost use Rattle.std.specs.Prelude.{◌≡◌, ◌≢◌, ℕ, ◌+◌, ◌*◌, ◌<◌, ◌≤◌};
 ghost use Rattle.list_in_table.specs.Rules.{none};
 ghost use Rattle.def_state.specs.World.{body_island};

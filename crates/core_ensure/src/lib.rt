@@ -1,4 +1,6 @@
 // Ensure on sound tables: a number for a new island, the island of one body.
+#![tactic(auto)]
+
 ghost use Rattle.std.specs.Prelude.{◌≡◌, ◌≢◌, ℕ, ◌+◌, ◌*◌, ◌<◌, ◌≤◌, length, get_or};
 ghost use Rattle.list_in_table.specs.Rules.{none};
 ghost use Rattle.def_state.specs.Membership.{may_join, ensure};

@@ -1,4 +1,6 @@
 // Finish: which of the observed islands may sleep, written to an output that the host lends, and the scan closes; on sound tables.
+#![tactic(auto)]
+
 ghost use Rattle.std.specs.Prelude.{◌≡◌, true, ◌++◌, ◌<◌, ◌≤◌, length, drop};
 ghost use Rattle.def_state.specs.Scan.{sleepable};
 ghost use Rattle.table_meaning.specs.Layout.{tables, extents};

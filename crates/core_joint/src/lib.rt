@@ -1,4 +1,6 @@
 // Joint links on sound tables: the place that has a key, a place for a new one, one link comes or goes, joint unlink.
+#![tactic(auto)]
+
 ghost use Rattle.std.specs.Prelude.{◌≡◌, ◌≢◌, ℕ, ◌+◌, ◌*◌, ◌<◌, ◌≤◌, length, get_or};
 ghost use Rattle.list_in_table.specs.Rules.{none, Is};
 ghost use Rattle.def_state.specs.Links.{same_handle, joint_room, unlink_joint};

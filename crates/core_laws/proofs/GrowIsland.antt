@@ -140,7 +140,7 @@ module _ (Z : Sizes) (X : Extents) (T : Tables) (G : Loose Z X T) (K : Sized Z T
   fit-o j d = get_or-set_other T.fit m j 0 0 d
 
   fit-m : get_or T1.fit m 0 ≡ 0
-  fit-m = let q = K.Fit-length in get_or-set_same T.fit m 0 0 (omega arith)
+  fit-m = let q = K.fit_length in get_or-set_same T.fit m 0 0 (omega arith)
 
   old : (i : ℕ) → i < m → Same Z T T' i
   old i h =

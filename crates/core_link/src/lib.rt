@@ -1,4 +1,6 @@
 // Contact link and joint link on sound tables: who is a member, merge, then the link is appended.
+#![tactic(auto)]
+
 ghost use Rattle.std.specs.Prelude.{◌≡◌, ◌≢◌, ◌≤◌};
 ghost use Rattle.list_in_table.specs.Rules.{none};
 ghost use Rattle.def_state.specs.Links.{joint_home, joint_room, link_contact, link_joint};

@@ -1,4 +1,6 @@
 // What the core asks of an island's number, on sound tables.
+#![tactic(auto)]
+
 ghost use Rattle.table_meaning.specs.Sound.{Sound};
 ghost use Rattle.core_laws.specs.Leaves.{Unpended};
 ghost use Rattle.core_live.specs.Live.{LiveIs};

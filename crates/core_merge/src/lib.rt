@@ -1,4 +1,6 @@
 // Merge of two islands on sound tables: the lesser one goes into the greater.
+#![tactic(auto)]
+
 ghost use Rattle.std.specs.Prelude.{◌≡◌, ◌≢◌, ◌+◌, ◌*◌, ◌<◌, length};
 ghost use Rattle.list_in_buffer.specs.Part.{Put};
 ghost use Rattle.def_state.specs.Links.{add_counts};

@@ -1,4 +1,6 @@
 // Remove and retire on sound tables, with the links that an emptied island drops; and a body's island.
+#![tactic(auto)]
+
 ghost use Rattle.std.specs.Prelude.{◌≡◌, ◌≢◌, ◌+◌, ◌*◌, ◌<◌};
 ghost use Rattle.list_in_table.specs.Rules.{none};
 ghost use Rattle.def_state.specs.Plain.{more};

@@ -1,4 +1,6 @@
 // Renumber on sound tables: the last edge takes the number of the removed one.
+#![tactic(auto)]
+
 ghost use Rattle.std.specs.Prelude.{◌≡◌, ◌≢◌, ℕ, ◌+◌, ◌*◌, ◌<◌, ◌≤◌, length};
 ghost use Rattle.list_in_buffer.specs.Part.{part, Put};
 ghost use Rattle.list_rename.specs.Renamed.{renamed, RenameReady};

@@ -1,4 +1,6 @@
 // Reset, on any words of the right length.
+#![tactic(auto)]
+
 ghost use Rattle.std.specs.Prelude.{◌≤◌};
 ghost use Rattle.table_meaning.specs.Does.{Reset};
 

@@ -1,4 +1,6 @@
 // The plain resolver: every entry of the journal, in order.
+#![tactic(auto)]
+
 ghost use Rattle.std.specs.Prelude.{◌≡◌};
 ghost use Rattle.def_state.specs.Resolver.{resolve_removals};
 ghost use Rattle.table_meaning.specs.Sound.{Sound};

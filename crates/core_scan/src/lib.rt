@@ -1,4 +1,6 @@
 // The sleep scan on sound tables: begin, and observe. What finish lists is core_finish; marking asleep and waking is core_sleep.
+#![tactic(auto)]
+
 ghost use Rattle.std.specs.Prelude.{◌<◌};
 ghost use Rattle.def_state.specs.Scan.{begin_sleep_scan, observe_body_for_sleep};
 ghost use Rattle.table_meaning.specs.Layout.{tables, scan_in};

@@ -1,4 +1,6 @@
 // An island is marked asleep, or wakes: on sound tables.
+#![tactic(auto)]
+
 ghost use Rattle.def_state.specs.Scan.{mark_island_sleeping, wake_island};
 ghost use Rattle.table_meaning.specs.Sound.{Sound};
 ghost use Rattle.table_meaning.specs.Does.{Does};

@@ -1,4 +1,6 @@
 // The types that every crate shares: numbers by kind, handles, joint keys, answers, the scan, sizes.
+#![tactic(auto)]
+
 ghost use Rattle.std.specs.Prelude.{◌≡◌, ℕ, ◌+◌, ◌%◌, ◌<◌, true, false};
 ghost use Rattle.def_kinds.specs.Number.{number};
 
@@ -6,17 +8,17 @@ ghost use Rattle.def_kinds.specs.Number.{number};
 pub const NONE: u32 = 4294967295;
 
 // A body slot, an island number and an edge number: three types, so that a call with the wrong kind of number does not compile.
-#[derive(Drop)]
+#[derive(Clone, Copy)]
 pub struct Slot(pub u32);
 
-#[derive(Drop)]
+#[derive(Clone, Copy)]
 pub struct Island(pub u32);
 
-#[derive(Drop)]
+#[derive(Clone, Copy)]
 pub struct Edge(pub u32);
 
 // A body: its slot, and which of the slot's bodies it is.
-#[derive(Drop)]
+#[derive(Clone, Copy)]
 pub struct Handle {
     pub slot: Slot,
     pub generation: u32,
@@ -37,14 +39,14 @@ impl Handle {
 }
 
 // What a joint link is known by (JointLinkKey).
-#[derive(Drop)]
+#[derive(Clone, Copy)]
 pub enum JointKey {
     Impulse { index: u32, generation: u32 },
     Chain { multibody: u64, ordinal: u32 },
 }
 
 // What a call answers. The numbers of document 01 are those of the definition `number`.
-#[derive(Drop)]
+#[derive(Clone, Copy)]
 pub enum Answer {
     Done,
     Nothing,
@@ -82,28 +84,28 @@ impl Answer {
 }
 
 // The answer to "whose island": the number is NONE for none, and with any other answer than Done.
-#[derive(Drop)]
+#[derive(Clone, Copy)]
 pub struct IslandAnswer {
     pub answer: Answer,
     pub island: Island,
 }
 
 // The answer to "which islands may sleep": how many were listed, 0 with any other answer than Done.
-#[derive(Drop)]
+#[derive(Clone, Copy)]
 pub struct ListAnswer {
     pub answer: Answer,
     pub length: u32,
 }
 
 // The answer to "may this island bid": yes only with the answer Done.
-#[derive(Drop)]
+#[derive(Clone, Copy)]
 pub struct BidAnswer {
     pub answer: Answer,
     pub yes: bool,
 }
 
 // The sleep scan: its stamp, whether it is open, and how many islands wait in it.
-#[derive(Drop)]
+#[derive(Clone, Copy)]
 pub struct Scan {
     pub stamp: u32,
     pub open: bool,
@@ -140,7 +142,7 @@ impl Scan {
 }
 
 // How much of each thing there is room for. All tables, definitions and proofs are over these.
-#[derive(Drop)]
+#[derive(Clone, Copy)]
 pub struct Sizes {
     pub slots: u32,
     pub islands: u32,

@@ -1,4 +1,6 @@
 // The host calls, at the rig's sizes and in the named types: each audits the buffer first, and none has a `requires`. At any sizes: sized.rt.
+#![tactic(auto)]
+
 ghost use Rattle.std.specs.Prelude.{◌≡◌, ◌≤◌, length, ◌/◌, ◌%◌};
 ghost use Rattle.def_kinds.specs.Number.{rig};
 ghost use Rattle.def_state.specs.Bodies.{put as putStep, flags as flagsStep, retire as retireStep, island as island_of};

@@ -1,4 +1,6 @@
 // Is a chain table well formed? A test of each element and each list by its neighbours alone.
+#![tactic(auto)]
+
 ghost use Rattle.std.specs.Prelude.{◌≡◌, ◌≢◌, ◌⊎◌, ℕ, ◌+◌, ◌*◌, ◌<◌, ◌≤◌, length, get_or};
 ghost use Rattle.list_in_table.specs.Rules.{none, View, Is, Blank, First, After, Final, Before, Held, Empty, Full};
 ghost use Rattle.list_in_table.specs.Table.{view, Room, Wf};

@@ -1,4 +1,6 @@
 // A chain table that is a part of one buffer: what list_in_table does to it, and the rest of the buffer stays.
+#![tactic(auto)]
+
 ghost use Rattle.std.specs.Prelude.{◌≡◌, ℕ, ◌+◌, ◌*◌, ◌<◌, ◌≤◌, length, get_or, set};
 ghost use Rattle.list_in_table.specs.Rules.{Is};
 ghost use Rattle.list_in_table.specs.Table.{pushed, removed, PushReady, RemoveReady, Room, Wf};

@@ -1,4 +1,6 @@
 // Lists through a table of words: an element is put last, or taken out by swap removal.
+#![tactic(auto)]
+
 ghost use Rattle.std.specs.Prelude.{◌≡◌, ◌≢◌, ℕ, ◌+◌, ◌*◌, ◌<◌, ◌≤◌, length, get_or};
 ghost use Rattle.list_in_table.specs.Rules.{none};
 ghost use Rattle.list_in_table.specs.Table.{next_set, pushed, removed, PushReady, RemoveReady};

@@ -1,4 +1,6 @@
 // An element of a chain table hands its place to another (renumber).
+#![tactic(auto)]
+
 ghost use Rattle.std.specs.Prelude.{◌≡◌, ◌≢◌, ℕ, ◌+◌, ◌*◌, ◌<◌, ◌≤◌, length, get_or};
 ghost use Rattle.list_in_table.specs.Rules.{none};
 ghost use Rattle.list_rename.specs.Renamed.{back_set, renamed, RenameReady};

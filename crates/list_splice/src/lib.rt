@@ -1,4 +1,6 @@
 // One list of a chain table is put behind another (merge).
+#![tactic(auto)]
+
 ghost use Rattle.std.specs.Prelude.{◌≡◌, ◌+◌, ◌*◌, ◌<◌};
 ghost use Rattle.list_splice.specs.Splice.{spliced, SpliceReady};
 

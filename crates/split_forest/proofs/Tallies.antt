@@ -27,7 +27,8 @@ pub one-ne : (a b : ℕ) → a ≢ b → one (eqb a b) ≡ 0
 one-ne a b = pick-ne a b 1 0
 
 one-le : (t : Bool) → one t ≤ 1
-one-le t = elim t [ true ↦ omega arith | false ↦ omega arith ]
+one-le true = omega arith
+one-le false = omega arith
 
 pub tally-le : (t : ℕ → Bool) (n : ℕ) → tally t n ≤ n
 unfolding tally

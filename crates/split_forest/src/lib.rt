@@ -1,4 +1,6 @@
 // Sets of places, each a tree with its root, joined smaller under larger.
+#![tactic(auto)]
+
 ghost use Rattle.std.specs.Prelude.{◌≡◌, List, [], ℕ, ◌≤◌, ◌<◌, length, set};
 ghost use Rattle.list_in_table.specs.Rules.{none, Is};
 ghost use Rattle.def_state.specs.Connected.{label, keep_label};

@@ -189,13 +189,13 @@ module _ {Z : Sizes} {base keep asleep : ℕ} {L goals0 t0 : List ℕ} (A : Assi
                 ap (λ (w : World). island_at w base) N.moves.after
                 ∙ reserved-same z (world_of Z t) base (let a = islands-is Z t in omega arith) (λ x. N.new base bl I.base_open.not_freed (x ∙ sym N.number))
                 ∙ I.base_same;
-            base_open = N.still_Open base bl I.base_open;
+            base_open = N.still_open base bl I.base_open;
             lt = λ q x.
                 either q p (λ y. subst (λ (j : ℕ). j < (extents T').islands) (sym (ap (λ (j : ℕ). get_or (set goals p r) j 0) y ∙ put_same r)) N.lt)
                 (λ y. subst (λ (j : ℕ). j < (extents T').islands) (sym (put_other r q (omega arith))) (let u = I.lt q (omega arith) in omega arith));
             opens = λ q x.
                 either q p (λ y. subst (OpenAt Z T') (sym (ap (λ (j : ℕ). get_or (set goals p r) j 0) y ∙ put_same r)) N.opens)
-                (λ y. subst (OpenAt Z T') (sym (put_other r q (omega arith))) (N.still_Open (get_or goals q 0) (I.lt q (omega arith)) (I.opens q (omega arith))));
+                (λ y. subst (OpenAt Z T') (sym (put_other r q (omega arith))) (N.still_open (get_or goals q 0) (I.lt q (omega arith)) (I.opens q (omega arith))));
             gets = λ i l f c.
                 either i r (λ y. record { place = p; place_lt = omega arith; goal_is = put_same r ∙ sym y })
                 (λ y.

@@ -1,4 +1,6 @@
 // The split of an island, on sound tables. The waiting split, and who may bid, is split_pending.
+#![tactic(auto)]
+
 ghost use Rattle.std.specs.Prelude.{◌≡◌, ◌≤◌, length};
 ghost use Rattle.def_state.specs.Split.{denial as denialOf, split_island_now};
 ghost use Rattle.table_meaning.specs.Decode.{world_of};

@@ -1,4 +1,6 @@
 // The components of an island: a label for each of its bodies, read from the tables.
+#![tactic(auto)]
+
 ghost use Rattle.std.specs.Prelude.{◌≡◌, [], ◌∷◌, ℕ, ◌+◌, ◌≤◌, ◌<◌, length};
 ghost use Rattle.def_kinds.specs.Choice.{pick};
 ghost use Rattle.def_state.specs.Split.{node_of};
@@ -14,7 +16,7 @@ use def_kinds::{NONE, Sizes};
 use table_meaning::{Table, word};
 
 // How many components an island has, and the label of the one that keeps its number.
-#[derive(Drop)]
+#[derive(Clone, Copy)]
 pub struct Shape {
     pub components: u32,
     pub keep: u32,

@@ -1,4 +1,6 @@
 // One link, one body or one number in the middle of a split, on loose tables: all well formed, but that an island may have no body yet.
+#![tactic(auto)]
+
 ghost use Rattle.std.specs.Prelude.{◌≡◌, ℕ, ◌≤◌, ◌<◌, length};
 ghost use Rattle.list_in_table.specs.Rules.{none};
 ghost use Rattle.table_meaning.specs.Layout.{tables, total, extents, freed_in};

@@ -1,4 +1,6 @@
 // The waiting split, and who may bid, on sound tables.
+#![tactic(auto)]
+
 ghost use Rattle.std.specs.Prelude.{◌≡◌, ◌≤◌};
 ghost use Rattle.def_state.specs.Split.{schedule_split, run_pending_split, split_allowed};
 ghost use Rattle.table_meaning.specs.Decode.{world_of};

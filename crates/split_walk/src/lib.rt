@@ -1,4 +1,6 @@
 // The walks of a split on loose tables: contact links, joint links, then bodies leave the island base, from the highest place down, by swap removal.
+#![tactic(auto)]
+
 ghost use Rattle.std.specs.Prelude.{◌≡◌, length, ◌≤◌, ◌<◌};
 ghost use Rattle.def_state.specs.Split.{link_goal};
 ghost use Rattle.table_meaning.specs.Layout.{tables};

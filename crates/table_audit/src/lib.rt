@@ -1,4 +1,6 @@
 // The audit of the whole buffer, on any words: the rules of each entry, the chain tables, the head, and no key twice.
+#![tactic(auto)]
+
 ghost use Rattle.std.specs.Prelude.{◌≡◌, ◌⊎◌, ℕ, ◌<◌, ◌≤◌, length};
 ghost use Rattle.list_in_table.specs.Rules.{Is};
 ghost use Rattle.table_meaning.specs.Layout.{tables, total, joints_in};

@@ -458,7 +458,7 @@ module _ (Z : Sizes) (X : Extents) (T U : Tables) (G : Good Z X T) (H : Good Z X
 
   same-fit : T.fit ≡ U.fit
   same-fit =
-      rows_same T.fit U.fit X.islands (K.Fit-length ∙ sym J.Fit-length)
+      rows_same T.fit U.fit X.islands (K.fit_length ∙ sym J.fit_length)
       (λ i il.
       fit_word T.fit U.fit i (same-elem G.scan_wf.rules H.scan_wf.rules seen-lists i il).home (G.seen i il) (H.seen i il)
       (held-value (scan_in Z U) G.scan_wf.rules (observed_at T.fit) (observed_at U.fit) observed-lists seen-lists i il))

@@ -1,7 +1,9 @@
 // The tables of the buffer. What each holds, word by word, stands in specs/Layout.antt.
+#![tactic(auto)]
+
 pub mod word;
 
-#[derive(Drop)]
+#[derive(Clone, Copy)]
 pub enum Table {
     Head,
     Slots,

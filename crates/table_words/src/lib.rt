@@ -1,4 +1,6 @@
 // The words of the tables by the name of their table, at any sizes; and the lists of chain tables by name.
+#![tactic(auto)]
+
 ghost use Rattle.std.specs.Prelude.{◌≡◌, [], ◌∷◌, ℕ, ◌+◌, ◌*◌, ◌<◌, ◌≤◌, length, get_or, set};
 ghost use Rattle.list_in_table.specs.Rules.{Is};
 ghost use Rattle.list_in_table.specs.Table.{pushed, removed, PushReady, RemoveReady, Wf};

@@ -1,6 +1,8 @@
 // From the code to the histories: each export, called on the tables that a history left, leaves the tables of a history. Nothing calls these
 // functions: the check of their contracts ties what the exports promise to the calls that the theorems of theorem_history speak of. A host
 // call's promise is its export's, said of the answer itself. The two questions, island and may_bid, get the tables to read only.
+#![tactic(auto)]
+
 ghost use Rattle.theorem_calls.specs.Next.{Next};
 
 pub fn reset(t: &mut [u32]) -> u32

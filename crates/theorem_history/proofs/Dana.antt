@@ -48,7 +48,7 @@ denied-le {Z} (call {t} {t'} H c r d) i =
     subst (λ (w : World). denied_at w i ≤ begins (call H c r d) + 16) (sym (after H c r d))
     ((turned Z c (world_of Z t)).low i (begins H) (stamp_le H) (denied-le H i))
 
-unsplit-le : {Z : Sizes} {t u : List ℕ} {H : History Z t} {K : History Z u} {i : ℕ} → Unsplit H i u K → denied_at (world_of Z u) i ≤ begins H + 16
+unsplit-le : {Z : Sizes} {t : List ℕ} {H : History Z t} {i : ℕ} {u : List ℕ} {K : History Z u} → Unsplit H i u K → denied_at (world_of Z u) i ≤ begins H + 16
 unsplit-le {H = H} {i = i} now = denied-le H i
 unsplit-le {Z} {H = H} {i = i} (later {u} {K = K} U c r d p) =
     subst (λ (w : World). denied_at w i ≤ begins H + 16) (sym (after K c r d)) (le_trans ((turned Z c (world_of Z u)).spared i p) (unsplit-le U))

@@ -105,6 +105,7 @@ counted-all (r ∷ rs) w = counted-then (counted_step r w) (counted-all rs (coun
 
 counted-each : (rs : List Removal) (w : World) (r : Removal) → In r rs → (j : ℕ) → j ≢ top → body_island w r.body1 ≡ j → body_island w r.body2 ≡ j → count (count_all rs w) j ≢ 0
 unfolding count_all
+counted-each [] w r i j t p q e = elim i [ ]
 counted-each (x ∷ rs) w r (here z) j t p q e =
     counted-hit x w j t (ap (λ (y : Removal). body_island w y.body1) z ∙ p) (ap (λ (y : Removal). body_island w y.body2) z ∙ q)
     ((counted-all rs (counted x w)).zeros j e)

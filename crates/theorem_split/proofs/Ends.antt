@@ -63,6 +63,7 @@ module _ (node : Handle → ℕ) where
 
   crossed : (bs : List Bond) (l : Bond) → In l bs → node l.body1 ≢ top → node l.body2 ≢ top
       → Link (bond_ends bs []) (node l.body1) (node l.body2) × Link (bond_ends bs []) (node l.body2) (node l.body1)
+  crossed [] l i d o = elim i [ ]
   crossed (k ∷ bs) l (here e) d o =
       let d' : node k.body1 ≢ top = rw e d in
       let o' : node k.body2 ≢ top = rw e o in

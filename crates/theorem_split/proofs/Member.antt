@@ -90,6 +90,7 @@ module _ {A B : Type 0} (f : A → B) where
     pub is : f source ≡ y
 
   pub map-in : {y : B} (xs : List A) → In y (map f xs) → Source y xs
+  map-in {y = y} [] i = elim i [ ]
   map-in (x ∷ xs) (here e) = record { source = x; listed = here refl; is = e }
   map-in (x ∷ xs) (there i) = let r = map-in xs i in record { source = r.source; listed = there r.listed; is = r.is }
 

@@ -1,1 +1,3 @@
 // What the states of sound tables are, what a split does to one, and that it is exact. No code.
+#![tactic(auto)]
+

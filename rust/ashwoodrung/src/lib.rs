@@ -5,7 +5,7 @@
 //!
 //! # Linking
 //!
-//! The crate links `libashwoodrung.a`. Build it once with `rt staticlib ashwoodrung` in the repository (Rattle's kit has `rt`), which writes
+//! The crate links `libashwoodrung.a`. Build it once with `tools/build.sh archive` in the repository (by `rt`, of Rattle's kit), which writes
 //! `target/staticlib/libashwoodrung.a`; the build script looks there, or in the folder that the environment variable `ASHWOODRUNG_LIB` names.
 //! The archive is for x86-64 Linux.
 //!

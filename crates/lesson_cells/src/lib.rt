@@ -1,4 +1,6 @@
 // Words of the lent buffer.
+#![tactic(auto)]
+
 ghost use Rattle.std.specs.Prelude.{◌≡◌, ◌+◌, ◌*◌, ◌<◌, ◌≤◌, get_or};
 
 // The word at `i`, and 0 behind the end: no index is wrong, so that damaged tables can be read too.

@@ -1,4 +1,6 @@
 // One line of a script, read into a command. LESSON-FORMAT.md says which lines there are.
+#![tactic(auto)]
+
 mod key;
 mod name;
 mod number;

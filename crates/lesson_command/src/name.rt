@@ -1,7 +1,7 @@
 // The first word of a line.
 use check::same;
 
-#[derive(Drop)]
+#[derive(Clone, Copy)]
 pub enum Name {
     Unknown,
     Reset,

@@ -4,9 +4,9 @@ ghost use Rattle.std.specs.Prelude.{◌≡◌, ℕ, ◌<◌, ◌≤◌, length, 
 // Where the word that begins at `from` ends: at the next blank, or with the line.
 pub fn word_end(line: &[u8], from: usize) -> usize
     requires { from ≤ length line.now }
-    ensures lower_bound { (from ≤ result) × (result ≤ length line.now) }
-    ensures by_index { (k : ℕ) → k < result → from ≤ k → get_or line.now k 0 ≡ 32 → ⊥ }
-    ensures result_value { result < length line.now → get_or line.now result 0 ≡ 32 }
+    ensures in_bounds { (from ≤ result) × (result ≤ length line.now) }
+    ensures passes_no_blank { (k : ℕ) → k < result → from ≤ k → get_or line.now k 0 ≡ 32 → ⊥ }
+    ensures stops_at_blank { result < length line.now → get_or line.now result 0 ≡ 32 }
 {
     let mut i = from;
     // One turn for each byte of the line at most.

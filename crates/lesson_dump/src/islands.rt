@@ -31,37 +31,38 @@ fn live_islands(t: &[u32]) -> u32 {
     live
 }
 
-pub fn islands(t: &[u32], out: &mut [u8], used: usize) -> usize {
+pub fn islands(rt: &(impl Print + Eprint), t: &[u32], out: &mut [u8], used: usize) -> usize {
     let m = islands_used(t);
-    let mut used = lesson_text::line(out, used, b"islands ", live_islands(t) as u64);
+    let mut used = lesson_text::line(rt, out, used, b"islands ", live_islands(t) as u64);
     let mut i: u32 = 0;
     // One turn for each island number in use.
     while i < m {
-        used = island(t, out, used, i);
+        used = island(rt, t, out, used, i);
         i += 1;
     }
     used
 }
 
 // An island and its three lists, if it is live.
-fn island(t: &[u32], out: &mut [u8], used: usize, i: u32) -> usize {
+fn island(rt: &(impl Print + Eprint), t: &[u32], out: &mut [u8], used: usize, i: u32) -> usize {
     if !is_live(t, i) {
         return used;
     }
-    let used = row(t, out, used, i);
-    let used = lesson_text::bytes(out, used, b"  bodies");
-    let used = items(t, out, used, layout::MEMBERS, i, Kind::Body);
-    let used = lesson_text::bytes(out, used, b"  contacts");
-    let used = items(t, out, used, layout::CONTACTS, i, Kind::Contact);
-    let used = lesson_text::bytes(out, used, b"  joints");
-    items(t, out, used, layout::LINKED, i, Kind::Joint)
+    let used = row(rt, t, out, used, i);
+    let used = lesson_text::bytes(rt, out, used, b"  bodies");
+    let used = items(rt, t, out, used, layout::MEMBERS, i, Kind::Body);
+    let used = lesson_text::bytes(rt, out, used, b"  contacts");
+    let used = items(rt, t, out, used, layout::CONTACTS, i, Kind::Contact);
+    let used = lesson_text::bytes(rt, out, used, b"  joints");
+    items(rt, t, out, used, layout::LINKED, i, Kind::Joint)
 }
 
-fn row(t: &[u32], out: &mut [u8], used: usize, i: u32) -> usize {
-    let used = lesson_text::labelled(out, used, b"island ", i);
-    let used = lesson_text::labelled(out, used, b" count ", cell(t, layout::ROWS, 3, i, 0));
-    let used = lesson_text::labelled(out, used, b" denied ", cell(t, layout::ROWS, 3, i, 1));
+fn row(rt: &(impl Print + Eprint), t: &[u32], out: &mut [u8], used: usize, i: u32) -> usize {
+    let used = lesson_text::labelled(rt, out, used, b"island ", i);
+    let used = lesson_text::labelled(rt, out, used, b" count ", cell(t, layout::ROWS, 3, i, 0));
+    let used = lesson_text::labelled(rt, out, used, b" denied ", cell(t, layout::ROWS, 3, i, 1));
     lesson_text::line(
+        rt,
         out,
         used,
         b" sleeping ",

@@ -30,7 +30,7 @@ pub const IS_OPEN: usize = 8;
 
 // A table of chains. An element has 4 words, its list, its place there, and the elements before and after it; a list has 2, how
 // many elements it has and its last one.
-#[derive(Drop)]
+#[derive(Clone, Copy)]
 pub struct Chains {
     pub elements: u32,
     pub ends: u32,

@@ -21,6 +21,7 @@ pub enum Reply {
 
 // Answers the line `line`, which is the `number`th. `list` takes the line's numbers.
 pub fn answer_line(
+    rt: &(impl Print + Eprint),
     t: &mut [u32],
     list: &mut [u32],
     line: &[u8],
@@ -30,7 +31,7 @@ pub fn answer_line(
 ) -> usize {
     let command = lesson_command::parse(line, list);
     let reply = call(t, list, command);
-    write_reply(t, list, out, used, number, reply)
+    write_reply(rt, t, list, out, used, number, reply)
 }
 
 // Makes the call that a line asks for.
@@ -100,6 +101,7 @@ fn finish_scan(t: &mut [u32], list: &mut [u32], room: u32) -> Reply {
 }
 
 fn write_reply(
+    rt: &(impl Print + Eprint),
     t: &[u32],
     list: &[u32],
     out: &mut [u8],
@@ -109,43 +111,61 @@ fn write_reply(
 ) -> usize {
     match reply {
         Reply::Silent => used,
-        Reply::BadLine => write_bad_line(out, used, number),
-        Reply::Answer(a) => lesson_text::line(out, used, b"", a.number() as u64),
-        Reply::Island(a) => write_island(out, used, a),
-        Reply::Bid(a, bids) => write_bid(out, used, a, bids),
-        Reply::List(a, n) => write_list(list, out, used, a, n),
-        Reply::Dump => dump(t, out, used),
+        Reply::BadLine => write_bad_line(rt, out, used, number),
+        Reply::Answer(a) => lesson_text::line(rt, out, used, b"", a.number() as u64),
+        Reply::Island(a) => write_island(rt, out, used, a),
+        Reply::Bid(a, bids) => write_bid(rt, out, used, a, bids),
+        Reply::List(a, n) => write_list(rt, list, out, used, a, n),
+        Reply::Dump => dump(rt, t, out, used),
     }
 }
 
-pub fn write_bad_line(out: &mut [u8], used: usize, number: u64) -> usize {
-    lesson_text::line(out, used, b"bad line ", number)
+pub fn write_bad_line(
+    rt: &(impl Print + Eprint),
+    out: &mut [u8],
+    used: usize,
+    number: u64,
+) -> usize {
+    lesson_text::line(rt, out, used, b"bad line ", number)
 }
 
-fn write_island(out: &mut [u8], used: usize, a: IslandAnswer) -> usize {
+fn write_island(rt: &(impl Print + Eprint), out: &mut [u8], used: usize, a: IslandAnswer) -> usize {
     let answer = a.answer;
     let island = a.island;
-    let used = lesson_text::small(out, used, answer.number());
-    lesson_text::line(out, used, b" ", island.0 as u64)
+    let used = lesson_text::small(rt, out, used, answer.number());
+    lesson_text::line(rt, out, used, b" ", island.0 as u64)
 }
 
-fn write_bid(out: &mut [u8], used: usize, a: Answer, bids: bool) -> usize {
-    let used = lesson_text::small(out, used, a.number());
+fn write_bid(
+    rt: &(impl Print + Eprint),
+    out: &mut [u8],
+    used: usize,
+    a: Answer,
+    bids: bool,
+) -> usize {
+    let used = lesson_text::small(rt, out, used, a.number());
     if bids {
-        return lesson_text::bytes(out, used, b" 1\n");
+        return lesson_text::bytes(rt, out, used, b" 1\n");
     }
-    lesson_text::bytes(out, used, b" 0\n")
+    lesson_text::bytes(rt, out, used, b" 0\n")
 }
 
 // The answer, the list's length, and the list.
-fn write_list(list: &[u32], out: &mut [u8], used: usize, a: Answer, n: u32) -> usize {
-    let used = lesson_text::small(out, used, a.number());
-    let mut used = lesson_text::labelled(out, used, b" ", n);
+fn write_list(
+    rt: &(impl Print + Eprint),
+    list: &[u32],
+    out: &mut [u8],
+    used: usize,
+    a: Answer,
+    n: u32,
+) -> usize {
+    let used = lesson_text::small(rt, out, used, a.number());
+    let mut used = lesson_text::labelled(rt, out, used, b" ", n);
     let mut i: u32 = 0;
     // One turn for each number of the list.
     while i < n {
-        used = lesson_text::labelled(out, used, b" ", word(list, i as usize));
+        used = lesson_text::labelled(rt, out, used, b" ", word(list, i as usize));
         i += 1;
     }
-    lesson_text::byte(out, used, b'\n')
+    lesson_text::byte(rt, out, used, b'\n')
 }

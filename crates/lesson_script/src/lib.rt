@@ -3,5 +3,7 @@
 //
 // Nothing here asks anything of its caller beyond what its `requires` says, and of the tables it asks nothing at all: a script
 // and the words of the state may hold anything.
+#![tactic(auto)]
+
 pub mod answer;
 pub mod read;

@@ -1,5 +1,7 @@
 // A script from a file: read in pieces, cut into lines, each line answered.
 use crate::answer::{answer_line, write_bad_line};
+use std::io;
+use std::io::Read;
 
 // How many bytes a line has at most, without its newline: the length of the buffer that `run` is lent for one.
 pub const LONGEST_LINE: usize = 131072;
@@ -11,15 +13,15 @@ pub const LIST: usize = 65536;
 const MOST_PIECES: u64 = 1073741824;
 
 // How far a script is read: how many lines are answered, how many bytes of the next line are read, how many bytes of output wait,
-// and whether there is more to read or a read failed. A line that its buffer does not hold is one byte longer here than the
-// buffer.
-#[derive(Drop)]
+// and whether there is more to read or a read failed, and why. A line that its buffer does not hold is one byte longer here than
+// the buffer.
+#[derive(Clone, Copy)]
 pub struct Reading {
     pub lines: u64,
     pub length: usize,
     pub used: usize,
     pub is_open: bool,
-    pub is_failed: bool,
+    pub failure: Option<io::Error>,
 }
 
 impl Reading {
@@ -29,7 +31,7 @@ impl Reading {
             length: 0,
             used: 0,
             is_open: true,
-            is_failed: false,
+            failure: None,
         }
     }
 
@@ -38,9 +40,9 @@ impl Reading {
         self
     }
 
-    fn failed(mut self) -> Self {
+    fn failed(mut self, error: io::Error) -> Self {
         self.is_open = false;
-        self.is_failed = true;
+        self.failure = Some(error);
         self
     }
 
@@ -58,17 +60,18 @@ impl Reading {
     }
 }
 
-// Runs the script that the descriptor `fd` reads, over the tables `t`, which are reset first, and writes the answers to standard
-// output. False where a read failed. The other slices are room to work in: for the numbers of a line (LIST), for a line
-// (LONGEST_LINE), for what a read brings, and for output that waits.
+// Runs the script that `input` reads, over the tables `t`, which are reset first, and writes the answers to standard output. Where
+// a read failed, its error, after the lines before it are answered. The other slices are room to work in: for the numbers of a
+// line (LIST), for a line (LONGEST_LINE), for what a read brings, and for output that waits.
 pub fn run(
-    fd: i32,
+    rt: &(impl Print + Eprint),
+    input: &mut impl Read,
     t: &mut [u32],
     list: &mut [u32],
     line: &mut [u8],
     piece: &mut [u8],
     out: &mut [u8],
-) -> bool {
+) -> io::Result<()> {
     host_calls::reset(t);
     let mut reading = Reading::start();
     let mut left = MOST_PIECES;
@@ -77,15 +80,19 @@ pub fn run(
         if !reading.is_open {
             break;
         }
-        reading = read_piece(fd, t, list, line, piece, out, reading);
+        reading = read_piece(rt, input, t, list, line, piece, out, reading);
         left -= 1;
     }
-    finish(t, list, line, out, reading);
-    !reading.is_failed
+    finish(rt, t, list, line, out, reading);
+    match reading.failure {
+        Some(error) => Err(error),
+        None => Ok(()),
+    }
 }
 
 fn read_piece(
-    fd: i32,
+    rt: &(impl Print + Eprint),
+    input: &mut impl Read,
     t: &mut [u32],
     list: &mut [u32],
     line: &mut [u8],
@@ -93,29 +100,33 @@ fn read_piece(
     out: &mut [u8],
     reading: Reading,
 ) -> Reading {
-    let got = libc::read(fd, piece);
-    if got < 0 {
-        return reading.failed();
+    match input.read(piece) {
+        Err(error) => reading.failed(error),
+        Ok(0) => reading.ended(),
+        Ok(n) => take_piece(rt, t, list, line, out, reading, &piece[..n]),
     }
-    if got == 0 {
-        return reading.ended();
-    }
-    let n = io::count(got, piece);
-    take_piece(t, list, line, out, reading, &piece[..n])
 }
 
 // The last line may have no newline.
-fn finish(t: &mut [u32], list: &mut [u32], line: &[u8], out: &mut [u8], reading: Reading) {
+fn finish(
+    rt: &(impl Print + Eprint),
+    t: &mut [u32],
+    list: &mut [u32],
+    line: &[u8],
+    out: &mut [u8],
+    reading: Reading,
+) {
     let used = reading.used;
     if reading.length == 0 {
-        lesson_text::flush(out, used);
+        lesson_text::flush(rt, out, used);
         return;
     }
-    let last = end_line(t, list, line, out, reading);
-    lesson_text::flush(out, last.used);
+    let last = end_line(rt, t, list, line, out, reading);
+    lesson_text::flush(rt, out, last.used);
 }
 
 fn take_piece(
+    rt: &(impl Print + Eprint),
     t: &mut [u32],
     list: &mut [u32],
     line: &mut [u8],
@@ -127,13 +138,14 @@ fn take_piece(
     let mut i = 0;
     // One turn for each byte of the piece.
     while i < piece.len() {
-        reading = take_byte(t, list, line, out, reading, piece[i]);
+        reading = take_byte(rt, t, list, line, out, reading, piece[i]);
         i += 1;
     }
     reading
 }
 
 fn take_byte(
+    rt: &(impl Print + Eprint),
     t: &mut [u32],
     list: &mut [u32],
     line: &mut [u8],
@@ -142,7 +154,7 @@ fn take_byte(
     b: u8,
 ) -> Reading {
     if b == b'\n' {
-        return end_line(t, list, line, out, reading);
+        return end_line(rt, t, list, line, out, reading);
     }
     reading.with_length(keep(line, reading.length, b))
 }
@@ -157,6 +169,7 @@ fn keep(line: &mut [u8], length: usize, b: u8) -> usize {
 }
 
 fn end_line(
+    rt: &(impl Print + Eprint),
     t: &mut [u32],
     list: &mut [u32],
     line: &[u8],
@@ -166,7 +179,7 @@ fn end_line(
     let number = std::num::wrapping_add_u64(reading.lines, 1);
     let length = reading.length;
     if length > line.len() {
-        return reading.next(write_bad_line(out, reading.used, number));
+        return reading.next(write_bad_line(rt, out, reading.used, number));
     }
-    reading.next(answer_line(t, list, &line[0..length], number, out, reading.used))
+    reading.next(answer_line(rt, t, list, &line[0..length], number, out, reading.used))
 }

@@ -1,11 +1,6 @@
 -- Laws on the digits of a word. Assumes nothing.
-use Prim.Native.Nat.{ℕ, zero, suc, ◌+◌, ◌-◌, ◌*◌, ◌<◌, ◌≤◌}
-use mathlib.Core.Path.{◌≡◌, subst}
-use mathlib.Core.List.{List}
-use native.Mathlib.Omega.{arith}
+use Rattle.std.proofs.Common.{ℕ, zero, suc, ◌+◌, ◌-◌, ◌*◌, ◌≤◌, ◌≡◌, List, get_or, subst, arith, add-one}
 use native.Mathlib.Nat.{add-zero, add-suc}
-use native.Mathlib.Numerals.{add-one}
-use lib.ListN.{get_or}
 use Rattle.lesson_text.specs.Number.{decimal}
 
 -- One digit more.

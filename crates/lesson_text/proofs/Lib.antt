@@ -1,3 +1,2 @@
 -- Laws that more than one proof cites.
 pub mod Decimal
-pub mod Laws

@@ -13,44 +13,58 @@ const FIRST: u32 = 4294967279;
 
 const STAMPS: u32 = 38;
 
-fn main() {
+fn main(rt: HostRuntime) {
     let mut t = [0u32; lesson_dump::layout::TOTAL];
     let mut list = [0u32; lesson_script::read::LIST];
     let mut out = [0u8; 65536];
-    let used = at_each(&mut t, &mut list, &mut out);
-    let used = through_all(&mut t, &mut list, &mut out, used);
-    lesson_text::flush(&out, used);
+    let used = at_each(&rt, &mut t, &mut list, &mut out);
+    let used = through_all(&rt, &mut t, &mut list, &mut out, used);
+    lesson_text::flush(&rt, &out, used);
 }
 
 // A yard of its own at each stamp.
-fn at_each(t: &mut [u32], list: &mut [u32], out: &mut [u8]) -> usize {
+fn at_each(rt: &(impl Print + Eprint), t: &mut [u32], list: &mut [u32], out: &mut [u8]) -> usize {
     let mut used: usize = 0;
     let mut k: u32 = 0;
     // One turn for each stamp.
     while k < STAMPS {
-        used = yard(t, list, out, used, std::num::wrapping_add_u32(FIRST, k));
-        used = two_scans(t, list, out, used);
+        used = yard(rt, t, list, out, used, std::num::wrapping_add_u32(FIRST, k));
+        used = two_scans(rt, t, list, out, used);
         k += 1;
     }
     used
 }
 
 // One yard, and a scan at each stamp in turn.
-fn through_all(t: &mut [u32], list: &mut [u32], out: &mut [u8], used: usize) -> usize {
-    let mut used = yard(t, list, out, used, FIRST);
+fn through_all(
+    rt: &(impl Print + Eprint),
+    t: &mut [u32],
+    list: &mut [u32],
+    out: &mut [u8],
+    used: usize,
+) -> usize {
+    let mut used = yard(rt, t, list, out, used, FIRST);
     let mut k: u32 = 0;
     // One turn for each stamp.
     while k < STAMPS {
-        used = run(t, list, b"begin\nobserve 0 1\nfinish\n", out, used);
+        used = run(rt, t, list, b"begin\nobserve 0 1\nfinish\n", out, used);
         k += 1;
     }
     used
 }
 
 // Two awake islands, 0 and 1, of one body each, in a yard whose last scan had this stamp.
-fn yard(t: &mut [u32], list: &mut [u32], out: &mut [u8], used: usize, stamp: u32) -> usize {
-    let used = lesson_text::line(out, used, b"from ", stamp as u64);
+fn yard(
+    rt: &(impl Print + Eprint),
+    t: &mut [u32],
+    list: &mut [u32],
+    out: &mut [u8],
+    used: usize,
+    stamp: u32,
+) -> usize {
+    let used = lesson_text::line(rt, out, used, b"from ", stamp as u64);
     let used = run(
+        rt,
         t,
         list,
         b"reset\nput 0 0 0 1 0\nput 1 0 0 1 0\nensure 0 0\nensure 1 0\n",
@@ -63,8 +77,15 @@ fn yard(t: &mut [u32], list: &mut [u32], out: &mut [u8], used: usize, stamp: u32
 
 // Both islands are observed, the second first, and an output that is too short is lent before one that is not; then one of the
 // second island's two observations is not eligible.
-fn two_scans(t: &mut [u32], list: &mut [u32], out: &mut [u8], used: usize) -> usize {
+fn two_scans(
+    rt: &(impl Print + Eprint),
+    t: &mut [u32],
+    list: &mut [u32],
+    out: &mut [u8],
+    used: usize,
+) -> usize {
     let used = run(
+        rt,
         t,
         list,
         b"observe 0 1\nbegin\nobserve 1 1\nobserve 0 1\nobserve 2 1\nfinish 1\nfinish\nfinish\n",
@@ -72,6 +93,7 @@ fn two_scans(t: &mut [u32], list: &mut [u32], out: &mut [u8], used: usize) -> us
         used,
     );
     run(
+        rt,
         t,
         list,
         b"begin\nobserve 1 1\nobserve 0 1\nobserve 1 0\nfinish\n",
@@ -81,13 +103,20 @@ fn two_scans(t: &mut [u32], list: &mut [u32], out: &mut [u8], used: usize) -> us
 }
 
 // The lines of a script, each of which has a newline.
-fn run(t: &mut [u32], list: &mut [u32], lines: &[u8], out: &mut [u8], used: usize) -> usize {
+fn run(
+    rt: &(impl Print + Eprint),
+    t: &mut [u32],
+    list: &mut [u32],
+    lines: &[u8],
+    out: &mut [u8],
+    used: usize,
+) -> usize {
     let mut used = used;
     let mut at: usize = 0;
     // One turn for each line, which has a byte at the least.
     while at < lines.len() {
         let end = line_end(lines, at);
-        used = say(t, list, &lines[at..end], out, used);
+        used = say(rt, t, list, &lines[at..end], out, used);
         at = end + 1;
     }
     used
@@ -110,9 +139,22 @@ fn line_end(lines: &[u8], at: usize) -> usize
 }
 
 // A line's answer, and the stamp.
-fn say(t: &mut [u32], list: &mut [u32], line: &[u8], out: &mut [u8], used: usize) -> usize {
-    let used = answer_line(t, list, line, 0, out, used);
-    lesson_text::line(out, used, b"stamp ", lesson_cells::word(t, STAMP) as u64)
+fn say(
+    rt: &(impl Print + Eprint),
+    t: &mut [u32],
+    list: &mut [u32],
+    line: &[u8],
+    out: &mut [u8],
+    used: usize,
+) -> usize {
+    let used = answer_line(rt, t, list, line, 0, out, used);
+    lesson_text::line(
+        rt,
+        out,
+        used,
+        b"stamp ",
+        lesson_cells::word(t, STAMP) as u64,
+    )
 }
 
 fn set_stamp(t: &mut [u32], stamp: u32) {

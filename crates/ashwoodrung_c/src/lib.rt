@@ -25,14 +25,28 @@ pub extern "C" fn ashwoodrung_reset(t: &mut [u32]) -> u32
 }
 
 #[unsafe(no_mangle)]
-pub extern "C" fn ashwoodrung_put(t: &mut [u32], slot: u32, generation: u32, fixed: u32, enabled: u32, sleeping: u32) -> u32
+pub extern "C" fn ashwoodrung_put(
+    t: &mut [u32],
+    slot: u32,
+    generation: u32,
+    fixed: u32,
+    enabled: u32,
+    sleeping: u32,
+) -> u32
     ensures { Told (put rig (handle slot generation) (is_set fixed) (is_set enabled) (is_set sleeping)) t.old result t.new }
 {
     ashwoodrung::ashwoodrung_put(t, slot, generation, fixed, enabled, sleeping)
 }
 
 #[unsafe(no_mangle)]
-pub extern "C" fn ashwoodrung_flags(t: &mut [u32], slot: u32, generation: u32, fixed: u32, enabled: u32, sleeping: u32) -> u32
+pub extern "C" fn ashwoodrung_flags(
+    t: &mut [u32],
+    slot: u32,
+    generation: u32,
+    fixed: u32,
+    enabled: u32,
+    sleeping: u32,
+) -> u32
     ensures { Told (flags (handle slot generation) (is_set fixed) (is_set enabled) (is_set sleeping)) t.old result t.new }
 {
     ashwoodrung::ashwoodrung_flags(t, slot, generation, fixed, enabled, sleeping)
@@ -67,7 +81,14 @@ pub extern "C" fn ashwoodrung_island(t: &[u32], slot: u32, generation: u32) -> u
 }
 
 #[unsafe(no_mangle)]
-pub extern "C" fn ashwoodrung_contact(t: &mut [u32], edge: u32, slot1: u32, generation1: u32, slot2: u32, generation2: u32) -> u32
+pub extern "C" fn ashwoodrung_contact(
+    t: &mut [u32],
+    edge: u32,
+    slot1: u32,
+    generation1: u32,
+    slot2: u32,
+    generation2: u32,
+) -> u32
     ensures { Told (link_contact rig edge (handle slot1 generation1) (handle slot2 generation2)) t.old result t.new }
 {
     ashwoodrung::ashwoodrung_contact(t, edge, slot1, generation1, slot2, generation2)
@@ -88,17 +109,49 @@ pub extern "C" fn ashwoodrung_renumber(t: &mut [u32], removed: u32, last: u32) -
 }
 
 #[unsafe(no_mangle)]
-pub extern "C" fn ashwoodrung_joint_impulse(t: &mut [u32], index: u32, generation: u32, slot1: u32, generation1: u32, slot2: u32, generation2: u32) -> u32
+pub extern "C" fn ashwoodrung_joint_impulse(
+    t: &mut [u32],
+    index: u32,
+    generation: u32,
+    slot1: u32,
+    generation1: u32,
+    slot2: u32,
+    generation2: u32,
+) -> u32
     ensures { Told (link_joint rig (impulse_key index generation) (handle slot1 generation1) (handle slot2 generation2)) t.old result t.new }
 {
-    ashwoodrung::ashwoodrung_joint_impulse(t, index, generation, slot1, generation1, slot2, generation2)
+    ashwoodrung::ashwoodrung_joint_impulse(
+        t,
+        index,
+        generation,
+        slot1,
+        generation1,
+        slot2,
+        generation2,
+    )
 }
 
 #[unsafe(no_mangle)]
-pub extern "C" fn ashwoodrung_joint_chain(t: &mut [u32], multibody: u64, ordinal: u32, slot1: u32, generation1: u32, slot2: u32, generation2: u32) -> u32
+pub extern "C" fn ashwoodrung_joint_chain(
+    t: &mut [u32],
+    multibody: u64,
+    ordinal: u32,
+    slot1: u32,
+    generation1: u32,
+    slot2: u32,
+    generation2: u32,
+) -> u32
     ensures { Told (link_joint rig (chain_key (multibody / 4294967296) (multibody % 4294967296) ordinal) (handle slot1 generation1) (handle slot2 generation2)) t.old result t.new }
 {
-    ashwoodrung::ashwoodrung_joint_chain(t, multibody, ordinal, slot1, generation1, slot2, generation2)
+    ashwoodrung::ashwoodrung_joint_chain(
+        t,
+        multibody,
+        ordinal,
+        slot1,
+        generation1,
+        slot2,
+        generation2,
+    )
 }
 
 #[unsafe(no_mangle)]

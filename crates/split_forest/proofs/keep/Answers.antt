@@ -33,10 +33,10 @@ loop-i-preserved c =
     let e = ap (at size) c.root_of-r.ensures in
     let f : ℕ → ℕ = λ k. at size (root_of (at parent) k) in
     let r : (c.if-top-s.top ≡ most f (c.loop-i.i + 1)) × (c.if-top-s.best ≡ first f (c.loop-i.i + 1)) =
-        elim c.if-top-s.branch [
-          then-top-s w ↦ scan-more f c.loop-i.i e v.2 v.3 w.if-top-s.true w.best-is w.top-is
-        | else-top-s w ↦ scan-less f c.loop-i.i e v.2 v.3 w.if-top-s.false w.best-is w.top-is
-        ] in
+    elim c.if-top-s.branch [
+      | then-top-s w ↦ scan-more f c.loop-i.i e v.2 v.3 w.if-top-s.true w.best-is w.top-is
+      | else-top-s w ↦ scan-less f c.loop-i.i e v.2 v.3 w.if-top-s.false w.best-is w.top-is
+    ] in
     (search rules, refl, r.0, r.1)
 
 pub returns : goal.returns

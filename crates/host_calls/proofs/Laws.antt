@@ -1,10 +1,9 @@
 -- A call from its audit's answer.
 use mathlib.Core.Path.{◌≡◌, refl, sym, ◌∙◌, ap}
 use mathlib.Core.Logic.{inl, inr}
-use mathlib.Core.Bool.{Bool, true, false, not, false≢true}
+use mathlib.Core.Bool.{Bool, true, false, false≢true}
 use mathlib.Core.List.{List}
 use Prim.Native.Nat.{ℕ}
-use borrow.Author.Tests.{not-true, not-false}
 use Rattle.list_in_table.specs.Rules.{Is}
 use Rattle.def_kinds.specs.declared.Sizes.{Sizes}
 use Rattle.def_kinds.specs.declared.Answer.{Answer}
@@ -19,28 +18,28 @@ use Rattle.host_calls.specs.Refusal.{may_bid}
 use Rattle.core_finish.specs.Listing.{Finishes, Finish}
 
 -- the audit said yes
-pub sound-is : (Z : Sizes) (t : List ℕ) (b : Bool) → Is b (Sound Z t) → not b ≡ false → Sound Z t
-sound-is Z t b a e = a.0 (not-false b e)
+pub sound-is : (Z : Sizes) (t : List ℕ) (b : Bool) → Is b (Sound Z t) → b ≡ true → Sound Z t
+sound-is Z t b a e = a.0 e
 
-unsound-is : (Z : Sizes) (t : List ℕ) (b : Bool) → Is b (Sound Z t) → not b ≡ true → Sound Z t → ⊥
-unsound-is Z t b a e S = false≢true (sym (not-true b e) ∙ a.1 S)
+unsound-is : (Z : Sizes) (t : List ℕ) (b : Bool) → Is b (Sound Z t) → b ≡ false → Sound Z t → ⊥
+unsound-is Z t b a e S = false≢true (sym e ∙ a.1 S)
 
-pub call-no : (Z : Sizes) (f : World → Step) (t : List ℕ) (b : Bool) → Is b (Sound Z t) → not b ≡ true → Called Z f t BadTables t
+pub call-no : (Z : Sizes) (f : World → Step) (t : List ℕ) (b : Bool) → Is b (Sound Z t) → b ≡ false → Called Z f t BadTables t
 call-no Z f t b a e = inr (record { unsound = unsound-is Z t b a e; nine = refl; same = refl })
 
-pub call-yes : (Z : Sizes) (f : World → Step) (t : List ℕ) (b : Bool) {r : Answer} {t' : List ℕ} → Is b (Sound Z t) → not b ≡ false → Does Z f t r t' → Called Z f t r t'
+pub call-yes : (Z : Sizes) (f : World → Step) (t : List ℕ) (b : Bool) {r : Answer} {t' : List ℕ} → Is b (Sound Z t) → b ≡ true → Does Z f t r t' → Called Z f t r t'
 call-yes Z f t b a e D = inl (sound-is Z t b a e, D)
 
-pub asks-no : {A : Type 0} (Z : Sizes) (f : World → A) (n : A) (t : List ℕ) (b : Bool) → Is b (Sound Z t) → not b ≡ true → Asks Z f n t n
+pub asks-no : {A : Type 0} (Z : Sizes) (f : World → A) (n : A) (t : List ℕ) (b : Bool) → Is b (Sound Z t) → b ≡ false → Asks Z f n t n
 asks-no Z f n t b a e = inr (unsound-is Z t b a e, refl)
 
-pub asks-yes : {A : Type 0} (Z : Sizes) (f : World → A) (n : A) (t : List ℕ) (b : Bool) {r : A} → Is b (Sound Z t) → not b ≡ false → r ≡ f (world_of Z t) → Asks Z f n t r
+pub asks-yes : {A : Type 0} (Z : Sizes) (f : World → A) (n : A) (t : List ℕ) (b : Bool) {r : A} → Is b (Sound Z t) → b ≡ true → r ≡ f (world_of Z t) → Asks Z f n t r
 asks-yes Z f n t b a e q = inl (sound-is Z t b a e, q)
 
-pub finish-no : (Z : Sizes) (t out : List ℕ) (b : Bool) → Is b (Sound Z t) → not b ≡ true → Finish Z t out BadTables 0 t out
+pub finish-no : (Z : Sizes) (t out : List ℕ) (b : Bool) → Is b (Sound Z t) → b ≡ false → Finish Z t out BadTables 0 t out
 finish-no Z t out b a e = inr (record { refuses = record { unsound = unsound-is Z t b a e; nine = refl; same = refl }; length_is = refl; out_is = refl })
 
-pub finish-yes : (Z : Sizes) (t out : List ℕ) (b : Bool) {r : Answer} {n : ℕ} {t' out' : List ℕ} → Is b (Sound Z t) → not b ≡ false → Finishes Z t out r n t' out' → Finish Z t out r n t' out'
+pub finish-yes : (Z : Sizes) (t out : List ℕ) (b : Bool) {r : Answer} {n : ℕ} {t' out' : List ℕ} → Is b (Sound Z t) → b ≡ true → Finishes Z t out r n t' out' → Finish Z t out r n t' out'
 finish-yes Z t out b a e F = inl (sound-is Z t b a e, F)
 
 -- the answer to "may this island bid", by its two parts

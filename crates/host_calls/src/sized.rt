@@ -1,7 +1,7 @@
 // The calls at any sizes, on any words: the audit, and then the step on sound tables.
 ghost use Rattle.std.specs.Prelude.{◌≡◌, ◌/◌, ◌%◌, ◌≤◌, length};
-ghost use Rattle.def_state.specs.Bodies.{put as putStep, flags as flagsStep, retire as retireStep, island as island_of};
-ghost use Rattle.def_state.specs.Membership.{ensure as ensureStep, remove as removeStep};
+ghost use Rattle.def_state.specs.Bodies.{put as put_step, flags as flags_step, retire as retire_step, island as island_of};
+ghost use Rattle.def_state.specs.Membership.{ensure as ensure_step, remove as remove_step};
 ghost use Rattle.def_state.specs.Links.{link_contact, unlink_contact, contact_edge_removed, link_joint, unlink_joint};
 ghost use Rattle.def_state.specs.Resolver.{resolve_removals};
 ghost use Rattle.def_state.specs.Chain.{refresh_multibody_chain};
@@ -25,7 +25,7 @@ pub fn put(
     enabled: bool,
     sleeping: bool,
 ) -> Answer
-    ensures { Called z (putStep z (handle s g) fixed enabled sleeping) t.old result t.new }
+    ensures { Called z (put_step z (handle s g) fixed enabled sleeping) t.old result t.new }
 {
     if !table_audit::sound(t, z) {
         return Answer::BadTables;
@@ -42,7 +42,7 @@ pub fn flags(
     enabled: bool,
     sleeping: bool,
 ) -> Answer
-    ensures { Called z (flagsStep (handle s g) fixed enabled sleeping) t.old result t.new }
+    ensures { Called z (flags_step (handle s g) fixed enabled sleeping) t.old result t.new }
 {
     if !table_audit::sound(t, z) {
         return Answer::BadTables;
@@ -51,7 +51,7 @@ pub fn flags(
 }
 
 pub fn ensure(t: &mut [u32], z: Sizes, s: u32, g: u32) -> Answer
-    ensures { Called z (ensureStep (handle s g)) t.old result t.new }
+    ensures { Called z (ensure_step (handle s g)) t.old result t.new }
 {
     if !table_audit::sound(t, z) {
         return Answer::BadTables;
@@ -60,7 +60,7 @@ pub fn ensure(t: &mut [u32], z: Sizes, s: u32, g: u32) -> Answer
 }
 
 pub fn remove(t: &mut [u32], z: Sizes, s: u32, g: u32) -> Answer
-    ensures { Called z (removeStep (handle s g)) t.old result t.new }
+    ensures { Called z (remove_step (handle s g)) t.old result t.new }
 {
     if !table_audit::sound(t, z) {
         return Answer::BadTables;
@@ -69,7 +69,7 @@ pub fn remove(t: &mut [u32], z: Sizes, s: u32, g: u32) -> Answer
 }
 
 pub fn retire(t: &mut [u32], z: Sizes, s: u32, g: u32) -> Answer
-    ensures { Called z (retireStep (handle s g)) t.old result t.new }
+    ensures { Called z (retire_step (handle s g)) t.old result t.new }
 {
     if !table_audit::sound(t, z) {
         return Answer::BadTables;

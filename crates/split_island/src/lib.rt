@@ -2,7 +2,7 @@
 #![tactic(auto)]
 
 ghost use Rattle.std.specs.Prelude.{◌≡◌, ◌≤◌, length};
-ghost use Rattle.def_state.specs.Split.{denial as denialOf, split_island_now};
+ghost use Rattle.def_state.specs.Split.{denial as denial_of, split_island_now};
 ghost use Rattle.table_meaning.specs.Decode.{world_of};
 ghost use Rattle.table_meaning.specs.Sound.{Sound};
 ghost use Rattle.table_meaning.specs.Does.{Does};
@@ -78,7 +78,7 @@ pub fn part_island(t: &mut [u32], z: Sizes, base: u32, keep: u32, labels: &[u32]
 
 // The stamp at which an island that is checked at this stamp may bid again.
 pub fn denial(stamp: u32) -> u32
-    ensures { result ≡ denialOf stamp }
+    ensures { result ≡ denial_of stamp }
 {
     if stamp > MOST - COOLDOWN {
         return MOST;

@@ -1,0 +1,2 @@
+-- Laws that more than one proof cites.
+pub mod Laws

@@ -13,9 +13,9 @@ pub unlink_joint_on-requires-in-Chain : goal.unlink_joint_on-requires-in-Chain
 unlink_joint_on-requires-in-Chain c = (sound-is c.args.z c.args.t.now _ c.sound.ensures c.if-not-sound.false, inr refl)
 
 pub returns-in-Impulse : goal.returns-in-Impulse
-returns-in-Impulse c = rw c.key-1.given.1 (call-yes c.args.z _ c.args.t.now _ c.sound.ensures c.if-not-sound.false c.unlink_joint_on.ensures)
+returns-in-Impulse c = rw c.in-Impulse.is (call-yes c.args.z _ c.args.t.now _ c.sound.ensures c.if-not-sound.false c.unlink_joint_on.ensures)
 
 pub returns-in-Chain : goal.returns-in-Chain
 returns-in-Chain c =
     let D = rw (c.high_half-high.ensures, c.low_half-low.ensures) at c.unlink_joint_on-in-Chain.ensures in
-    rw c.key-in-Chain-1.given.1 (call-yes c.args.z _ c.args.t.now _ c.sound.ensures c.if-not-sound.false D)
+    rw c.in-Chain.is (call-yes c.args.z _ c.args.t.now _ c.sound.ensures c.if-not-sound.false D)

@@ -1,0 +1,7 @@
+use Rattle.core_scan.proofs.Keep.{scan_kept}
+use Rattle.core_scan.proofs.keep_scan.Goals as goal
+
+pub returns : goal.returns
+returns c =
+    let P = rw c.bit-word.ensures at c.set2.ensures in
+    scan_kept c.args.scan c.requires P

@@ -1,0 +1,11 @@
+-- `theorem_calls::put` meets its contract, by the law of its call.
+use Rattle.core_laws.specs.Steps.{handle}
+use Rattle.ashwoodrung.specs.Told.{is_set}
+use Rattle.theorem_calls.proofs.Rows.{put_next, told-next}
+use Rattle.theorem_calls.proofs.put.Goals as goal
+
+pub returns : goal.returns
+returns c =
+    let x = c.ashwoodrung_put in
+    let a = c.args in
+    told-next (λ r. put_next (handle a.slot a.generation) (is_set a.fixed) (is_set a.enabled) (is_set a.sleeping)) x.ensures

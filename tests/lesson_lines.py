@@ -1,6 +1,7 @@
 #!/usr/bin/env python3
 """lesson_lines.py SEED LINES [long [PROGRAM]]: random script lines, well formed and not; the program's `bad line` answers must be
-those of this reading of LESSON-FORMAT.md. `long` adds lines around 128 KiB and long chains. PROGRAM is target/bin/lesson."""
+those of this reading of LESSON-FORMAT.md. `long` adds lines around 128 KiB and long chains. PROGRAM is
+target/bin/lesson, which `tools/build.sh lesson` makes, if it is not named."""
 import random,sys,re,subprocess
 NONE=2**32-1
 def num(w,mx=NONE):

@@ -1,3 +1,4 @@
 -- Definitions that the contracts cite.
 pub mod Added
 pub mod Number
+pub mod Reason

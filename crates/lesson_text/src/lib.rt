@@ -1,8 +1,9 @@
 // Text to be written. Bytes wait in a lent buffer, `used` of them, until it is full or `flush` is called. Each function answers
-// how many wait then. `digits` reads numbers.
+// how many wait then. `digits` reads numbers, `reason` says why a call failed.
 #![tactic(auto)]
 
 pub mod digits;
+pub mod reason;
 
 ghost use Rattle.std.specs.Prelude.{◌≡◌, [], ◌∷◌};
 ghost use Rattle.lesson_text.specs.Added.{Added, Spelled};
@@ -19,7 +20,9 @@ pub fn flush(rt: &(impl Print + Eprint), out: &[u8], used: usize) -> usize
 
 fn write(rt: &(impl Print + Eprint), bytes: &[u8]) {
     if let Err(error) = rt.write_all(bytes) {
-        let _ = eprintln!(rt; "standard output: {error}");
+        let mut room = [0u8; reason::LONGEST];
+        let why = reason::reason(error, &mut room);
+        let _ = eprintln!(rt; "standard output: {why}");
     }
 }
 

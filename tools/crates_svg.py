@@ -29,7 +29,7 @@ def read(path):
     for line in open(path):
         name, colon, rest = line.split("#")[0].partition(":")
         if colon:
-            needs[name.strip()] = [d for d in rest.split() if d not in KIT]
+            needs[name.split()[0]] = [d for d in rest.split() if d not in KIT]
     return needs
 
 

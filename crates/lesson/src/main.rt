@@ -27,8 +27,8 @@ fn run(rt: &HostRuntime, input: &mut impl Read, name: &[u8]) {
 fn fail(rt: &HostRuntime, what: &[u8], name: &[u8], error: Error) {
     let _ = rt.stderr().write_all(what);
     let _ = rt.stderr().write_all(name);
-    let mut room = [0u8; lesson_script::reason::LONGEST];
-    let why = lesson_script::reason::reason(error, &mut room);
+    let mut room = [0u8; lesson_text::reason::LONGEST];
+    let why = lesson_text::reason::reason(error, &mut room);
     let _ = eprintln!(rt; ": {why}");
 }
 

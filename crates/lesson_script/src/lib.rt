@@ -7,6 +7,3 @@
 
 pub mod answer;
 pub mod read;
-
-// Why a read failed, for the caller of `read::run`.
-pub use lesson_text::reason;

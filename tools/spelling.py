@@ -13,11 +13,11 @@ import re
 import sys
 
 CRATES = "crates"
-# Facts, which are types, in small letters.
 # Names that would fall together with others, or with a field's.
 APART = {
     "noBody": "absent_body", "noIsland": "absent_island", "noContact": "absent_contact", "noJoint": "absent_joint", "same_key": "same_key-refl", "body-at": "body_word", "getD-grown": "get_or-grown", "getD-vacant": "get_or-vacant",
 }
+# Facts, which are types, in small letters.
 FACTS = {"tied": "TiedAfter", "recorded": "RecordedAfter", "tiedAll": "TiedAfterAll", "recordedAll": "RecordedAfterAll", "sees": "Sees"}
 TOKEN = re.compile(r"[^\s(){}\[\];,.\"«»`:]+")
 HEAD = re.compile(r"^(\s*)((?:abbrev |unfoldable |pub |data |record )*)([^\s(){}\[\];,.\"«»`:]+)\s*(?:: .*|:)$")

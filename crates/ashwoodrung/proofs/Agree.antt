@@ -4,7 +4,7 @@ use mathlib.Core.Logic.{inl, inr}
 use mathlib.Core.List.{List}
 use Prim.Native.Nat.{ℕ, ◌<◌}
 use native.Mathlib.Omega.{arith}
-use Rattle.def_kinds.specs.declared.Answer.{Answer}
+use Rattle.def_kinds.specs.Answers.{Answer}
 use Rattle.def_kinds.specs.declared.IslandAnswer.{IslandAnswer}
 use Rattle.def_kinds.specs.declared.BidAnswer.{BidAnswer}
 use Rattle.def_kinds.specs.Number.{number, rig}

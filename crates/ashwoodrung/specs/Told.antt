@@ -1,6 +1,6 @@
 -- What C and Rust programs see of a call: numbers.
 use Rattle.std.specs.Prelude.{◌≡◌, Bool, not, List, ℕ, ◌+◌, ◌*◌, eqb}
-use Rattle.def_kinds.specs.declared.Answer.{Answer}
+use Rattle.def_kinds.specs.Answers.{Answer}
 use Rattle.def_kinds.specs.declared.IslandAnswer.{IslandAnswer}
 use Rattle.def_kinds.specs.declared.BidAnswer.{BidAnswer}
 use Rattle.def_kinds.specs.declared.ListAnswer.{ListAnswer}

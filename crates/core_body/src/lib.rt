@@ -10,9 +10,9 @@ ghost use Rattle.table_meaning.specs.Decode.{world_of, bit_of};
 ghost use Rattle.table_meaning.specs.Sound.{Sound};
 ghost use Rattle.table_meaning.specs.Does.{Does};
 ghost use Rattle.core_laws.specs.Steps.{handle, Grew, Stood};
-ghost use Rattle.def_kinds.specs.declared.Answer.TheVariants.{Done};
+ghost use Rattle.def_kinds.specs.Answers.{Done};
 
-use def_kinds::{Answer, NONE, Sizes};
+use def_kinds::{Answer, NONE, Outcome, Refusal, Sizes};
 use table_meaning::{Table, word};
 
 // Does the handle of slot s and generation g name a live body?
@@ -39,26 +39,19 @@ pub fn grow_slot(t: &mut [u32], z: Sizes, n: u32)
     requires { Sound z t.old × (n ≡ (extents (tables z t.old)).slots) × (n < z.slots) × (n < none) }
     ensures { Grew z (n + 1) t.old t.new }
 {
-    table_words::set5(
+    table_words::set_all(
         t,
         z,
         Table::Slots,
         word::SLOT * (n as usize),
-        NONE,
-        0,
-        0,
-        0,
-        0,
+        &[NONE, 0, 0, 0, 0],
     );
-    table_words::set4(
+    table_words::set_all(
         t,
         z,
         Table::Members,
         word::CELL * (n as usize),
-        NONE,
-        NONE,
-        NONE,
-        NONE,
+        &[NONE, NONE, NONE, NONE],
     );
     table_words::set(t, z, Table::Head, word::SLOTS_USED, n + 1);
 }
@@ -103,16 +96,12 @@ pub fn fill(
     let fixed_word = bit(fixed);
     let enabled_word = bit(enabled);
     let sleeping_word = bit(sleeping);
-    table_words::set5(
+    table_words::set_all(
         t,
         z,
         Table::Slots,
         word::SLOT * (s as usize),
-        g,
-        lowest,
-        fixed_word,
-        enabled_word,
-        sleeping_word,
+        &[g, lowest, fixed_word, enabled_word, sleeping_word],
     );
 }
 
@@ -130,30 +119,30 @@ pub fn put_on(
     ensures { Does z (put z (handle s g) fixed enabled sleeping) t.old result t.new }
 {
     if s >= z.slots {
-        return Answer::OverSize;
+        return Err(Refusal::OverSize);
     }
     let in_use = table_words::get(t, z, Table::Head, word::SLOTS_USED);
     if s >= in_use {
         if g == NONE {
-            return Answer::BadGeneration;
+            return Err(Refusal::BadGeneration);
         }
         grow_slots(t, z, s + 1);
         fill(t, z, s, g, 0, fixed, enabled, sleeping);
-        return Answer::Done;
+        return Ok(Outcome::Done);
     }
     let standing = table_words::get(t, z, Table::Slots, word::SLOT * (s as usize));
     if standing != NONE {
-        return Answer::SlotTaken;
+        return Err(Refusal::SlotTaken);
     }
     let lowest = table_words::get(t, z, Table::Slots, word::SLOT * (s as usize) + word::LOWEST);
     if g < lowest {
-        return Answer::BadGeneration;
+        return Err(Refusal::BadGeneration);
     }
     if g == NONE {
-        return Answer::BadGeneration;
+        return Err(Refusal::BadGeneration);
     }
     fill(t, z, s, g, lowest, fixed, enabled, sleeping);
-    Answer::Done
+    Ok(Outcome::Done)
 }
 
 // flags, on sound tables.
@@ -170,11 +159,11 @@ pub fn flags_on(
     ensures { Does z (flags (handle s g) fixed enabled sleeping) t.old result t.new }
 {
     if !is_named(t, z, s, g) {
-        return Answer::Nothing;
+        return Ok(Outcome::Nothing);
     }
     let lowest = table_words::get(t, z, Table::Slots, word::SLOT * (s as usize) + word::LOWEST);
     fill(t, z, s, g, lowest, fixed, enabled, sleeping);
-    Answer::Done
+    Ok(Outcome::Done)
 }
 
 // The slot s, whose body is in no island, holds nothing any more; the lowest generation that may come next is g + 1.
@@ -182,15 +171,11 @@ pub fn empty_slot(t: &mut [u32], z: Sizes, s: u32, g: u32)
     requires { Sound z t.old × (s < (extents (tables z t.old)).slots) × ((members_in z (tables z t.old)).home s ≡ none) × (g < none) }
     ensures { Stood z s none (g + 1) 0 0 0 t.old t.new }
 {
-    table_words::set5(
+    table_words::set_all(
         t,
         z,
         Table::Slots,
         word::SLOT * (s as usize),
-        NONE,
-        g + 1,
-        0,
-        0,
-        0,
+        &[NONE, g + 1, 0, 0, 0],
     );
 }

@@ -10,8 +10,7 @@ use lib.ListN.{length, get_or}
 use Rattle.list_in_table.specs.Rules.{none}
 use Rattle.def_kinds.specs.Choice.{pick}
 use Rattle.def_kinds.specs.declared.Sizes.{Sizes}
-use Rattle.def_kinds.specs.declared.Answer.{Answer}
-use Rattle.def_kinds.specs.declared.Answer.TheVariants.{Done, JointsFull, JournalFull}
+use Rattle.def_kinds.specs.Answers.{Answer, Done, JointsFull, JournalFull}
 use Rattle.def_state.specs.World.{Handle, Body, chain, World, body_of, named}
 use Rattle.def_state.proofs.Absent.{top-named}
 use Rattle.def_state.specs.Links.{joint_room, link_joint, unlink_joint}

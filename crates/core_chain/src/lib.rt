@@ -11,7 +11,7 @@ ghost use Rattle.core_laws.specs.Steps.{handle};
 ghost use Rattle.core_laws.specs.Chaining.{handles_from, CameBySteps, LinkedOn};
 ghost use Rattle.core_chain.specs.Linking.{present};
 
-use def_kinds::{Answer, Handle, NONE, Sizes, Slot};
+use def_kinds::{Answer, Handle, NONE, Outcome, Refusal, Sizes, Slot};
 use table_meaning::{Table, word};
 
 // Is it a live, enabled, non-fixed body?
@@ -26,12 +26,7 @@ fn is_chainable(t: &[u32], z: Sizes, s: u32, g: u32) -> bool
     if fixed == 1 {
         return false;
     }
-    let enabled = table_words::get(
-        t,
-        z,
-        Table::Slots,
-        word::SLOT * (s as usize) + word::ENABLED,
-    );
+    let enabled = table_words::get(t, z, Table::Slots, word::SLOT * (s as usize) + word::ENABLED);
     if enabled != 1 {
         return false;
     }
@@ -150,20 +145,20 @@ pub fn refresh_on(t: &mut [u32], z: Sizes, high: u32, low: u32, list: &[u32], n:
     ensures { Does z (refresh_multibody_chain z high low (handles_from list.now 0 n)) t.old result t.new }
 {
     if n > z.slots {
-        return Answer::JointsFull;
+        return Err(Refusal::JointsFull);
     }
     let old_links = old_length(t, z, high, low);
     let old = old_links as u64;
     let new = count_chainable(t, z, list, n) as u64;
     let room = core_joint::joint_room(t, z) as u64;
     if room + old + 1 < new {
-        return Answer::JointsFull;
+        return Err(Refusal::JointsFull);
     }
     let entries = table_words::get(t, z, Table::Head, word::JOURNAL_USED) as u64;
     if (z.journal as u64) < entries + old {
-        return Answer::JournalFull;
+        return Err(Refusal::JournalFull);
     }
     unlink_chain(t, z, high, low, old_links);
     link_chain(t, z, high, low, list, n);
-    Answer::Done
+    Ok(Outcome::Done)
 }

@@ -14,7 +14,7 @@ ghost use Rattle.core_laws.specs.Linking.{tracking, contact_of, contact_push, jo
 ghost use Rattle.core_laws.specs.Loose.{Loosely, ContactGone};
 ghost use Rattle.core_laws.specs.Lives.{Lives};
 
-use def_kinds::{Answer, NONE, Sizes};
+use def_kinds::{Answer, NONE, Outcome, Refusal, Sizes};
 use table_meaning::{Table, word};
 
 // The island of the body that the handle names: NONE where it names none, or one in no island.
@@ -33,26 +33,8 @@ pub fn grow_edge(t: &mut [u32], z: Sizes, e: u32)
     requires { Sound z t.old × (e ≡ (extents (tables z t.old)).edges) × (e < z.edges) × (e < none) }
     ensures { Steps z (tracking (e + 1)) t.old t.new }
 {
-    table_words::set4(
-        t,
-        z,
-        Table::Touches,
-        word::TOUCH * (e as usize),
-        NONE,
-        NONE,
-        NONE,
-        NONE,
-    );
-    table_words::set4(
-        t,
-        z,
-        Table::Contacts,
-        word::CELL * (e as usize),
-        NONE,
-        NONE,
-        NONE,
-        NONE,
-    );
+    table_words::set_all(t, z, Table::Touches, word::TOUCH * (e as usize), &[NONE, NONE, NONE, NONE]);
+    table_words::set_all(t, z, Table::Contacts, word::CELL * (e as usize), &[NONE, NONE, NONE, NONE]);
     table_words::set(t, z, Table::Head, word::TRACKED, e + 1);
 }
 
@@ -78,16 +60,7 @@ pub fn push_contact(t: &mut [u32], z: Sizes, i: u32, e: u32, s1: u32, g1: u32, s
     ensures { Steps z (contact_push i (contact_of e s1 g1 s2 g2)) t.old t.new }
 {
     table_words::push(t, z, Table::Contacts, i, e);
-    table_words::set4(
-        t,
-        z,
-        Table::Touches,
-        word::TOUCH * (e as usize),
-        s1,
-        g1,
-        s2,
-        g2,
-    );
+    table_words::set_all(t, z, Table::Touches, word::TOUCH * (e as usize), &[s1, g1, s2, g2]);
 }
 
 // The linked edge e is taken out of its island's list, whose last link takes its place.
@@ -95,8 +68,8 @@ pub fn take_contact(t: &mut [u32], z: Sizes, e: u32)
     requires { Loosely z t.old × (e < (extents (tables z t.old)).edges) × ((contacts_in z (tables z t.old)).home e ≢ none) }
     ensures { ContactGone z e t.old t.new }
 {
-    table_words::remove_edge(t, z, e);
-    table_words::set_touch(t, z, word::TOUCH * (e as usize), NONE, NONE, NONE, NONE);
+    table_words::remove(t, z, Table::Contacts, e);
+    table_words::set_all(t, z, Table::Touches, word::TOUCH * (e as usize), &[NONE, NONE, NONE, NONE]);
 }
 
 // One more entry of the journal, for which there is room.
@@ -104,9 +77,9 @@ pub fn push_entry(t: &mut [u32], z: Sizes, s1: u32, g1: u32, s2: u32, g2: u32)
     requires { Sound z t.old × ((extents (tables z t.old)).journal < z.journal) }
     ensures { Steps z (journalled (handle s1 g1) (handle s2 g2)) t.old t.new }
 {
-    let entries = table_words::head_word(t, z, word::JOURNAL_USED);
-    table_words::set_entry(t, z, word::ENTRY * (entries as usize), s1, g1, s2, g2);
-    table_words::set_head(t, z, word::JOURNAL_USED, entries + 1);
+    let entries = table_words::get(t, z, Table::Head, word::JOURNAL_USED);
+    table_words::set_all(t, z, Table::Journal, word::ENTRY * (entries as usize), &[s1, g1, s2, g2]);
+    table_words::set(t, z, Table::Head, word::JOURNAL_USED, entries + 1);
 }
 
 // Is it the same body?
@@ -127,27 +100,27 @@ pub fn unlink_contact_on(t: &mut [u32], z: Sizes, e: u32) -> Answer
     requires { Sound z t.old }
     ensures { Does z (unlink_contact z e) t.old result t.new }
 {
-    let tracked = table_words::head_word(t, z, word::TRACKED);
+    let tracked = table_words::get(t, z, Table::Head, word::TRACKED);
     if e >= tracked {
-        return Answer::Nothing;
+        return Ok(Outcome::Nothing);
     }
-    let i = table_words::edge_home(t, z, e);
+    let i = table_words::home(t, z, Table::Contacts, e);
     if i == NONE {
-        return Answer::Nothing;
+        return Ok(Outcome::Nothing);
     }
-    let s1 = table_words::touch_word(t, z, word::TOUCH * (e as usize));
-    let g1 = table_words::touch_word(t, z, word::TOUCH * (e as usize) + word::GENERATION1);
-    let s2 = table_words::touch_word(t, z, word::TOUCH * (e as usize) + word::SLOT2);
-    let g2 = table_words::touch_word(t, z, word::TOUCH * (e as usize) + word::GENERATION2);
+    let s1 = table_words::get(t, z, Table::Touches, word::TOUCH * (e as usize));
+    let g1 = table_words::get(t, z, Table::Touches, word::TOUCH * (e as usize) + word::GENERATION1);
+    let s2 = table_words::get(t, z, Table::Touches, word::TOUCH * (e as usize) + word::SLOT2);
+    let g2 = table_words::get(t, z, Table::Touches, word::TOUCH * (e as usize) + word::GENERATION2);
     if same_handle(s1, g1, s2, g2) {
         take_contact(t, z, e);
-        return Answer::Done;
+        return Ok(Outcome::Done);
     }
-    let entries = table_words::head_word(t, z, word::JOURNAL_USED);
+    let entries = table_words::get(t, z, Table::Head, word::JOURNAL_USED);
     if entries >= z.journal {
-        return Answer::JournalFull;
+        return Err(Refusal::JournalFull);
     }
     take_contact(t, z, e);
     push_entry(t, z, s1, g1, s2, g2);
-    Answer::Done
+    Ok(Outcome::Done)
 }

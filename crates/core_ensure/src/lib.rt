@@ -11,7 +11,7 @@ ghost use Rattle.table_meaning.specs.Does.{Does};
 ghost use Rattle.core_laws.specs.Steps.{handle, island_blanked, found, Steps};
 ghost use Rattle.core_laws.specs.Loose.{Loosely, IslandMore, MadeReady};
 
-use def_kinds::{Answer, NONE, Sizes};
+use def_kinds::{Answer, NONE, Outcome, Sizes};
 use table_meaning::{Table, word};
 
 // Is it a live, enabled, non-fixed non-member?
@@ -26,12 +26,7 @@ pub fn may_join(t: &[u32], z: Sizes, s: u32, g: u32) -> bool
     if fixed == 1 {
         return false;
     }
-    let enabled = table_words::get(
-        t,
-        z,
-        Table::Slots,
-        word::SLOT * (s as usize) + word::ENABLED,
-    );
+    let enabled = table_words::get(t, z, Table::Slots, word::SLOT * (s as usize) + word::ENABLED);
     if enabled != 1 {
         return false;
     }
@@ -51,13 +46,13 @@ fn blank_island(t: &mut [u32], z: Sizes, m: u32)
     let contacts = table_words::ends_at(z, Table::Contacts);
     let joints = table_words::ends_at(z, Table::Joints);
     let i = m as usize;
-    table_words::set2(t, z, Table::Members, bodies + word::END * i, 0, NONE);
-    table_words::set2(t, z, Table::Contacts, contacts + word::END * i, 0, NONE);
-    table_words::set2(t, z, Table::Joints, joints + word::END * i, 0, NONE);
-    table_words::set3(t, z, Table::Rows, word::ROW * i, 0, 0, 0);
-    table_words::set4(t, z, Table::Scan, word::CELL * i, NONE, NONE, NONE, NONE);
+    table_words::set_all(t, z, Table::Members, bodies + word::END * i, &[0, NONE]);
+    table_words::set_all(t, z, Table::Contacts, contacts + word::END * i, &[0, NONE]);
+    table_words::set_all(t, z, Table::Joints, joints + word::END * i, &[0, NONE]);
+    table_words::set_all(t, z, Table::Rows, word::ROW * i, &[0, 0, 0]);
+    table_words::set_all(t, z, Table::Scan, word::CELL * i, &[NONE, NONE, NONE, NONE]);
     table_words::set(t, z, Table::Fit, i, 0);
-    table_words::set4(t, z, Table::Freed, word::CELL * i, NONE, NONE, NONE, NONE);
+    table_words::set_all(t, z, Table::Freed, word::CELL * i, &[NONE, NONE, NONE, NONE]);
 }
 
 // The island number m, the first that was never used, comes into use, freed.
@@ -88,22 +83,11 @@ pub fn found_island(t: &mut [u32], z: Sizes, s: u32)
     requires { Sound z t.old × (s < (extents (tables z t.old)).slots) × ((members_in z (tables z t.old)).home s ≡ none) × (get_or (tables z t.old).slots (5 * s) 0 ≢ none) × (0 < (freed_in z (tables z t.old)).count 0) × (get_or (tables z t.old).slots (5 * s + 4) 0 ≤ 1) }
     ensures { Steps z (found s (flag (get_or (tables z t.old).slots (5 * s + 4) 0))) t.old t.new }
 {
-    let asleep = table_words::get(
-        t,
-        z,
-        Table::Slots,
-        word::SLOT * (s as usize) + word::SLEEPING,
-    );
+    let asleep = table_words::get(t, z, Table::Slots, word::SLOT * (s as usize) + word::SLEEPING);
     let i = table_words::last(t, z, Table::Freed, 0);
     table_words::remove(t, z, Table::Freed, i);
     table_words::push(t, z, Table::Members, i, s);
-    table_words::set(
-        t,
-        z,
-        Table::Rows,
-        word::ROW * (i as usize) + word::ASLEEP,
-        asleep,
-    );
+    table_words::set(t, z, Table::Rows, word::ROW * (i as usize) + word::ASLEEP, asleep);
 }
 
 // ensure, on sound tables.
@@ -112,9 +96,9 @@ pub fn ensure_on(t: &mut [u32], z: Sizes, s: u32, g: u32) -> Answer
     ensures { Does z (ensure (handle s g)) t.old result t.new }
 {
     if !may_join(t, z, s, g) {
-        return Answer::Nothing;
+        return Ok(Outcome::Nothing);
     }
     make_ready(t, z);
     found_island(t, z, s);
-    Answer::Done
+    Ok(Outcome::Done)
 }

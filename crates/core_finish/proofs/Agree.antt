@@ -8,7 +8,7 @@ use native.Mathlib.Omega.{arith}
 use lib.ListN.{length, drop}
 use lib.Dec.{ltb}
 use Rattle.def_kinds.specs.declared.Sizes.{Sizes}
-use Rattle.def_kinds.specs.declared.Answer.{Answer}
+use Rattle.def_kinds.specs.Answers.{Answer}
 use Rattle.def_kinds.specs.Number.{number}
 use Rattle.def_state.specs.World.{World}
 use Rattle.def_state.specs.Scan.{sleepables, Listing, finish_sleep_scan}

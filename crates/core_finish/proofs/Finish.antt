@@ -9,8 +9,7 @@ use lib.ListN.{length, drop}
 use Rattle.def_kinds.specs.Choice.{pick}
 use Rattle.def_kinds.specs.declared.Sizes.{Sizes}
 use Rattle.def_kinds.specs.declared.Scan.{Scan}
-use Rattle.def_kinds.specs.declared.Answer.{Answer}
-use Rattle.def_kinds.specs.declared.Answer.TheVariants.{Done, NoScan, TooShort}
+use Rattle.def_kinds.specs.Answers.{Answer, Done, NoScan, TooShort}
 use Rattle.def_state.specs.World.{World, done, gives}
 use Rattle.def_state.specs.Fields.{scan_set}
 use Rattle.def_state.specs.Scan.{sleepables, Listing, finish_sleep_scan}

@@ -1,7 +1,7 @@
 -- What finish does: with the tables, with the list's length, and with the output that the host lends.
 use Rattle.std.specs.Prelude.{◌≡◌, ◌⊎◌, List, ◌++◌, ℕ, length, drop}
 use Rattle.def_kinds.specs.declared.Sizes.{Sizes}
-use Rattle.def_kinds.specs.declared.Answer.{Answer}
+use Rattle.def_kinds.specs.Answers.{Answer}
 use Rattle.def_state.specs.World.{World}
 use Rattle.def_state.specs.Scan.{finish_sleep_scan}
 use Rattle.def_state.specs.Calls.{finished}

@@ -9,7 +9,7 @@ ghost use Rattle.table_meaning.specs.Sound.{Sound};
 ghost use Rattle.core_finish.specs.Restful.{Wrote, restful};
 ghost use Rattle.core_finish.specs.Listing.{Finishes};
 
-use def_kinds::{Answer, ListAnswer, Sizes};
+use def_kinds::{Outcome, Refusal, Sizes, ListAnswer};
 use table_meaning::{Table, word};
 
 // May the observed island i sleep: live, awake, always eligible, with count 0 or at most one body?
@@ -17,19 +17,19 @@ fn may_sleep(t: &[u32], z: Sizes, i: u32) -> bool
     requires { Sound z t.now × (i < (extents (tables z t.now)).islands) }
     ensures { result ≡ sleepable (world_of z t.now) (observed_at (tables z t.now).fit i) }
 {
-    let fit = table_words::fit_word(t, z, i as usize);
+    let fit = table_words::get(t, z, Table::Fit, i as usize);
     if fit != 1 {
         return false;
     }
-    let bodies = table_words::body_count(t, z, i);
+    let bodies = table_words::count(t, z, Table::Members, i);
     if bodies == 0 {
         return false;
     }
-    let asleep = table_words::row_word(t, z, word::ROW * (i as usize) + word::ASLEEP);
+    let asleep = table_words::get(t, z, Table::Rows, word::ROW * (i as usize) + word::ASLEEP);
     if asleep == 1 {
         return false;
     }
-    let removals = table_words::row_word(t, z, word::ROW * (i as usize));
+    let removals = table_words::get(t, z, Table::Rows, word::ROW * (i as usize));
     if removals == 0 {
         return true;
     }
@@ -52,12 +52,7 @@ fn count_restful(t: &[u32], z: Sizes) -> u32
         if may_sleep(t, z, island) {
             found += 1;
         }
-        island = table_words::get(
-            t,
-            z,
-            Table::Scan,
-            word::CELL * (island as usize) + word::PREV,
-        );
+        island = table_words::get(t, z, Table::Scan, word::CELL * (island as usize) + word::PREV);
         left -= 1;
     }
     found
@@ -86,12 +81,7 @@ fn write_restful(t: &[u32], z: Sizes, out: &mut [u32], n: u32)
     // One turn for each island in the scan's list, from the last to the first: at most as many as there are islands.
     while left > 0 {
         front = write_one(t, z, out, island, front);
-        island = table_words::get(
-            t,
-            z,
-            Table::Scan,
-            word::CELL * (island as usize) + word::PREV,
-        );
+        island = table_words::get(t, z, Table::Scan, word::CELL * (island as usize) + word::PREV);
         left -= 1;
     }
 }
@@ -105,14 +95,14 @@ pub fn finish_on(t: &mut [u32], z: Sizes, out: &mut [u32]) -> ListAnswer
     let open = scan.open;
     if !open {
         return ListAnswer {
-            answer: Answer::NoScan,
+            answer: Err(Refusal::NoScan),
             length: 0,
         };
     }
     let n = count_restful(t, z);
     if (n as usize) > out.len() {
         return ListAnswer {
-            answer: Answer::TooShort,
+            answer: Err(Refusal::TooShort),
             length: 0,
         };
     }
@@ -121,7 +111,7 @@ pub fn finish_on(t: &mut [u32], z: Sizes, out: &mut [u32]) -> ListAnswer
     let closed = scan.close();
     core_scan::keep_scan(t, z, closed);
     ListAnswer {
-        answer: Answer::Done,
+        answer: Ok(Outcome::Done),
         length: n,
     }
 }

@@ -13,7 +13,7 @@ ghost use Rattle.core_laws.specs.Linking.{journalled, place_ready, joint_push};
 ghost use Rattle.core_laws.specs.Places.{KeyRule, HasKey, LinkedAs, Unlinked, Finds, grow_place};
 ghost use Rattle.core_laws.specs.Loose.{Loosely, JointGone};
 
-use def_kinds::{Answer, NONE, Sizes};
+use def_kinds::{Answer, NONE, Outcome, Refusal, Sizes};
 use table_meaning::{Table, word};
 
 // ---- which place has a key: four words (kind, a, b, c)
@@ -88,19 +88,10 @@ pub fn grow_place(t: &mut [u32], z: Sizes, p: u32)
     ensures { Steps z grow_place t.old t.new }
 {
     let i = p as usize;
-    table_words::set4(t, z, Table::Keys, word::KEY * i, NONE, NONE, NONE, NONE);
-    table_words::set4(
-        t,
-        z,
-        Table::Keys,
-        word::KEY * i + word::KEY_BODIES,
-        NONE,
-        NONE,
-        NONE,
-        NONE,
-    );
-    table_words::set4(t, z, Table::Joints, word::CELL * i, NONE, NONE, NONE, NONE);
-    table_words::set4(t, z, Table::Spare, word::CELL * i, NONE, NONE, NONE, NONE);
+    table_words::set_all(t, z, Table::Keys, word::KEY * i, &[NONE, NONE, NONE, NONE]);
+    table_words::set_all(t, z, Table::Keys, word::KEY * i + word::KEY_BODIES, &[NONE, NONE, NONE, NONE]);
+    table_words::set_all(t, z, Table::Joints, word::CELL * i, &[NONE, NONE, NONE, NONE]);
+    table_words::set_all(t, z, Table::Spare, word::CELL * i, &[NONE, NONE, NONE, NONE]);
     table_words::push(t, z, Table::Spare, 0, p);
     table_words::set(t, z, Table::Head, word::JOINTS_USED, p + 1);
 }
@@ -140,17 +131,8 @@ pub fn push_joint(
     let p = table_words::last(t, z, Table::Spare, 0);
     table_words::remove(t, z, Table::Spare, p);
     table_words::push(t, z, Table::Joints, i, p);
-    table_words::set4(t, z, Table::Keys, word::KEY * (p as usize), kind, a, b, c);
-    table_words::set4(
-        t,
-        z,
-        Table::Keys,
-        word::KEY * (p as usize) + word::KEY_BODIES,
-        s1,
-        g1,
-        s2,
-        g2,
-    );
+    table_words::set_all(t, z, Table::Keys, word::KEY * (p as usize), &[kind, a, b, c]);
+    table_words::set_all(t, z, Table::Keys, word::KEY * (p as usize) + word::KEY_BODIES, &[s1, g1, s2, g2]);
 }
 
 // The link at the place p goes, and the place is free.
@@ -158,18 +140,10 @@ pub fn take_joint(t: &mut [u32], z: Sizes, p: u32)
     requires { Loosely z t.old × (p < (extents (tables z t.old)).joints) × ((joints_in z (tables z t.old)).home p ≢ none) }
     ensures { JointGone z p t.old t.new }
 {
-    table_words::remove_joint(t, z, p);
-    table_words::set_key(t, z, word::KEY * (p as usize), NONE, NONE, NONE, NONE);
-    table_words::set_key(
-        t,
-        z,
-        word::KEY * (p as usize) + word::KEY_BODIES,
-        NONE,
-        NONE,
-        NONE,
-        NONE,
-    );
-    table_words::push_spare(t, z, p);
+    table_words::remove(t, z, Table::Joints, p);
+    table_words::set_all(t, z, Table::Keys, word::KEY * (p as usize), &[NONE, NONE, NONE, NONE]);
+    table_words::set_all(t, z, Table::Keys, word::KEY * (p as usize) + word::KEY_BODIES, &[NONE, NONE, NONE, NONE]);
+    table_words::push(t, z, Table::Spare, 0, p);
 }
 
 // Does the link at the place p lead from a body to itself?
@@ -179,11 +153,11 @@ fn same_ends(t: &[u32], z: Sizes, p: u32) -> bool
 {
     let first = word::KEY * (p as usize) + word::KEY_BODIES;
     let second = word::KEY * (p as usize) + word::KEY_SLOT2;
-    if table_words::key_word(t, z, first) != table_words::key_word(t, z, second) {
+    if table_words::get(t, z, Table::Keys, first) != table_words::get(t, z, Table::Keys, second) {
         return false;
     }
-    if table_words::key_word(t, z, first + word::GENERATION1)
-        != table_words::key_word(t, z, second + word::GENERATION1)
+    if table_words::get(t, z, Table::Keys, first + word::GENERATION1)
+        != table_words::get(t, z, Table::Keys, second + word::GENERATION1)
     {
         return false;
     }
@@ -197,23 +171,23 @@ pub fn unlink_joint_on(t: &mut [u32], z: Sizes, kind: u32, a: u32, b: u32, c: u3
 {
     let p = find_place(t, z, kind, a, b, c);
     if p == NONE {
-        return Answer::Nothing;
+        return Ok(Outcome::Nothing);
     }
     if same_ends(t, z, p) {
         take_joint(t, z, p);
-        return Answer::Done;
+        return Ok(Outcome::Done);
     }
-    let entries = table_words::head_word(t, z, word::JOURNAL_USED);
+    let entries = table_words::get(t, z, Table::Head, word::JOURNAL_USED);
     if entries >= z.journal {
-        return Answer::JournalFull;
+        return Err(Refusal::JournalFull);
     }
     let first = word::KEY * (p as usize) + word::KEY_BODIES;
     let second = word::KEY * (p as usize) + word::KEY_SLOT2;
-    let s1 = table_words::key_word(t, z, first);
-    let g1 = table_words::key_word(t, z, first + word::GENERATION1);
-    let s2 = table_words::key_word(t, z, second);
-    let g2 = table_words::key_word(t, z, second + word::GENERATION1);
+    let s1 = table_words::get(t, z, Table::Keys, first);
+    let g1 = table_words::get(t, z, Table::Keys, first + word::GENERATION1);
+    let s2 = table_words::get(t, z, Table::Keys, second);
+    let g2 = table_words::get(t, z, Table::Keys, second + word::GENERATION1);
     take_joint(t, z, p);
     core_contact::push_entry(t, z, s1, g1, s2, g2);
-    Answer::Done
+    Ok(Outcome::Done)
 }

@@ -11,8 +11,7 @@ use borrow.Author.Tests.{eq-eqb, ne_eqb, lt-ltb, le-ltb}
 use lib.ListN.{length, get_or, set, length-set, length-append}
 use Rattle.def_kinds.specs.Choice.{pick}
 use Rattle.def_kinds.specs.declared.Sizes.{Sizes}
-use Rattle.def_kinds.specs.declared.Answer.{Answer}
-use Rattle.def_kinds.specs.declared.Answer.TheVariants.{Done, Nothing, JointsFull, JournalFull}
+use Rattle.def_kinds.specs.Answers.{Answer, Done, Nothing, JointsFull, JournalFull}
 use Rattle.def_state.specs.Plain.{top, empty, drop_last}
 use Rattle.def_state.specs.World.{Handle, Key, impulse, chain, JointLink, absent_joint, Island, absent_island, World, Step, done, gives, island_at, body_of, named, body_island}
 use Rattle.def_state.specs.Fields.{places_set, island_set}

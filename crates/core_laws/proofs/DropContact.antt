@@ -9,7 +9,7 @@ use Rattle.list_in_table.specs.Word.{writes}
 use Rattle.list_in_table.specs.Table.{removed}
 use Rattle.list_in_buffer.specs.Part.{Put}
 use Rattle.def_kinds.specs.declared.Sizes.{Sizes}
-use Rattle.def_kinds.specs.declared.Answer.TheVariants.{Done}
+use Rattle.def_kinds.specs.Answers.{Done}
 use Rattle.def_state.specs.Plain.{drop_last}
 use Rattle.def_state.specs.World.{ContactLink, absent_contact, Island, absent_island, World, done, island_at}
 use Rattle.def_state.specs.Fields.{islands_set, island_set, contacts_set}

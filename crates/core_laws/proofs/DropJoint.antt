@@ -12,7 +12,7 @@ use Rattle.list_in_table.proofs.Laws.{full}
 use Rattle.list_in_table.proofs.Order.{length-list}
 use Rattle.list_in_buffer.specs.Part.{Put}
 use Rattle.def_kinds.specs.declared.Sizes.{Sizes}
-use Rattle.def_kinds.specs.declared.Answer.TheVariants.{Done}
+use Rattle.def_kinds.specs.Answers.{Done}
 use Rattle.def_state.specs.Plain.{drop_last, last_of}
 use Rattle.def_state.specs.World.{JointLink, absent_joint, Island, absent_island, World, done, island_at}
 use Rattle.def_state.specs.Fields.{places_set, island_set, joints_set}

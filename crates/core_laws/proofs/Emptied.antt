@@ -12,8 +12,7 @@ use Rattle.list_in_table.specs.Rules.{none}
 use Rattle.def_kinds.specs.Choice.{pick}
 use Rattle.list_in_table.proofs.Same.{below}
 use Rattle.def_kinds.specs.declared.Sizes.{Sizes}
-use Rattle.def_kinds.specs.declared.Answer.{Answer}
-use Rattle.def_kinds.specs.declared.Answer.TheVariants.{Done, Nothing}
+use Rattle.def_kinds.specs.Answers.{Answer, Done, Nothing}
 use Rattle.def_state.specs.Plain.{empty, place_of, swap_remove}
 use Rattle.def_state.specs.World.{Island, absent_island, World, done, gives, island_at, named, island_of}
 use Rattle.def_state.specs.Fields.{island_set, contacts_set}

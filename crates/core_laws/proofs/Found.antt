@@ -15,7 +15,7 @@ use Rattle.list_in_table.proofs.Laws.{either, full}
 use Rattle.list_in_table.proofs.Order.{length-list, list-of}
 use Rattle.list_in_buffer.specs.Part.{Put}
 use Rattle.def_kinds.specs.declared.Sizes.{Sizes}
-use Rattle.def_kinds.specs.declared.Answer.TheVariants.{Done, Nothing}
+use Rattle.def_kinds.specs.Answers.{Done, Nothing}
 use Rattle.def_state.specs.Plain.{top, drop_last, last_of}
 use Rattle.def_state.specs.World.{Body, World, done, body_of, named}
 use Rattle.def_state.specs.Fields.{islands_set, free_set, island_set}

@@ -14,7 +14,7 @@ use Rattle.list_in_table.specs.Table.{view, Wf}
 use Rattle.list_in_table.proofs.Laws.{either}
 use Rattle.list_in_buffer.specs.Part.{part, Put}
 use Rattle.def_kinds.specs.declared.Sizes.{Sizes}
-use Rattle.def_kinds.specs.declared.Answer.TheVariants.{Done}
+use Rattle.def_kinds.specs.Answers.{Done}
 use lib.ListN.{replicate, length-replicate, length-append}
 use Rattle.def_state.specs.World.{Body, absent_body, World, Step, done}
 use Rattle.def_state.specs.Fields.{bodies_set}

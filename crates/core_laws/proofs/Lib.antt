@@ -36,3 +36,4 @@ pub mod GrowPlace
 pub mod UnlinkJoint
 pub mod Renumber
 pub mod LinkJoint
+pub mod KeyWords

@@ -10,8 +10,7 @@ use borrow.Author.Tests.{eq-eqb, ne_eqb, eqb-true, le-leb, lt-leb}
 use lib.ListN.{length, get_or, set}
 use Rattle.def_kinds.specs.Choice.{pick}
 use Rattle.def_kinds.specs.declared.Sizes.{Sizes}
-use Rattle.def_kinds.specs.declared.Answer.{Answer}
-use Rattle.def_kinds.specs.declared.Answer.TheVariants.{Done, Nothing, OverSize, JointsFull}
+use Rattle.def_kinds.specs.Answers.{Answer, Done, Nothing, OverSize, JointsFull}
 use Rattle.def_state.specs.Plain.{top, empty, drop_last, last_of}
 use Rattle.def_state.specs.World.{Handle, Key, ContactLink, JointLink, World, Step, done, gives, island_at, body_island}
 use Rattle.def_state.specs.Fields.{places_set, island_set}

@@ -9,7 +9,7 @@ use lib.Dec.{eqb}
 use Rattle.list_in_table.specs.Rules.{none}
 use Rattle.def_kinds.specs.Choice.{pick}
 use Rattle.def_kinds.specs.declared.Sizes.{Sizes}
-use Rattle.def_kinds.specs.declared.Answer.TheVariants.{Done, Nothing}
+use Rattle.def_kinds.specs.Answers.{Done, Nothing}
 use Rattle.def_state.specs.World.{Handle, ContactLink, World, Step, done, gives, body_island}
 use Rattle.def_state.specs.Links.{contact_home, survivor, merge_islands, target, merged, track, contact_pushed, link_contact}
 use Rattle.table_meaning.specs.Layout.{tables, extents, contacts_in}

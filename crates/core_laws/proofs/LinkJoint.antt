@@ -11,7 +11,7 @@ use Rattle.def_kinds.specs.Choice.{pick}
 use Rattle.list_in_table.proofs.Laws.{either}
 use Rattle.list_in_table.proofs.Order.{length-list}
 use Rattle.def_kinds.specs.declared.Sizes.{Sizes}
-use Rattle.def_kinds.specs.declared.Answer.TheVariants.{Done, Nothing, JointsFull}
+use Rattle.def_kinds.specs.Answers.{Done, Nothing, JointsFull}
 use Rattle.def_state.specs.World.{Handle, Key, Island, absent_island, World, Step, done, gives, island_at, body_island}
 use Rattle.def_state.specs.Links.{joint_home, joint_below, survivor, merge_islands, target, merged, joint_pushed, new_place, take_place, joint_room, link_joint}
 use Rattle.table_meaning.specs.Layout.{Tables, tables, Extents, extents, members_in, joints_in}

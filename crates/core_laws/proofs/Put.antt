@@ -11,8 +11,7 @@ use lib.ListN.{length, get_or, set}
 use Rattle.list_in_table.specs.Rules.{none}
 use Rattle.def_kinds.specs.Choice.{pick}
 use Rattle.def_kinds.specs.declared.Sizes.{Sizes}
-use Rattle.def_kinds.specs.declared.Answer.{Answer}
-use Rattle.def_kinds.specs.declared.Answer.TheVariants.{Done, Nothing, OverSize, SlotTaken, BadGeneration}
+use Rattle.def_kinds.specs.Answers.{Answer, Done, Nothing, OverSize, SlotTaken, BadGeneration}
 use Rattle.def_state.specs.World.{Handle, Body, absent_body, World, Step, done, gives, body_of, named}
 use Rattle.def_state.specs.Fields.{bodies_set}
 use Rattle.def_state.specs.Bodies.{grown, filled, placed, put, flags, vacated, vacate}

@@ -20,7 +20,7 @@ use Rattle.list_rename.proofs.Words as handing
 use Rattle.list_rename.proofs.Words.{rename-kept}
 use Rattle.list_in_buffer.specs.Part.{Put}
 use Rattle.def_kinds.specs.declared.Sizes.{Sizes}
-use Rattle.def_kinds.specs.declared.Answer.TheVariants.{Done, Nothing, StillLinked}
+use Rattle.def_kinds.specs.Answers.{Done, Nothing, StillLinked}
 use Rattle.def_state.specs.Plain.{top, place_of}
 use Rattle.def_state.specs.World.{ContactLink, absent_contact, Island, World, Step, done, gives, island_at}
 use Rattle.def_state.specs.Fields.{island_set, tracked_set, contacts_set}

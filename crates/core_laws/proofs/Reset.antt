@@ -12,7 +12,7 @@ use Rattle.list_in_table.specs.Word.{writes, Misses, miss, hit, length_writes}
 use Rattle.list_in_table.specs.Table.{view, Wf}
 use Rattle.list_in_buffer.specs.Part.{part, Put}
 use Rattle.def_kinds.specs.declared.Sizes.{Sizes}
-use Rattle.def_kinds.specs.declared.Answer.TheVariants.{Done}
+use Rattle.def_kinds.specs.Answers.{Done}
 use Rattle.def_state.specs.World.{World, empty_world}
 use Rattle.table_meaning.specs.Layout.{Tables, tables, total, head_at, head_span, freed_at, freed_span, spare_at, spare_span, scan_at, scan_span, head_put, freed_put, spare_put, scan_put, list_words, Extents, extents, freed_in, spare_in, scan_in}
 use Rattle.table_meaning.specs.Decode.{flag, tabulate, observed_at, decode, world_of}

@@ -17,7 +17,7 @@ use lib.Dec.{eqb}
 use borrow.Author.Tests.{eq-eqb, ne_eqb}
 use native.Mathlib.Numerals.{add-one}
 use Rattle.def_kinds.specs.Choice.{pick}
-use Rattle.def_kinds.specs.declared.Answer.TheVariants.{Done, Nothing}
+use Rattle.def_kinds.specs.Answers.{Done, Nothing}
 use Rattle.def_state.specs.Plain.{top, empty, more}
 use Rattle.def_state.specs.World.{Handle, Island, absent_island, Removal, World, Step, done, gives, island_at, body_island}
 use Rattle.def_state.specs.Fields.{journal_set, islands_set, island_set, count_set}

@@ -14,7 +14,7 @@ use Rattle.list_in_table.specs.Table.{view, Wf}
 use Rattle.list_in_table.proofs.Laws.{either}
 use Rattle.list_in_buffer.specs.Part.{part, Put}
 use Rattle.def_kinds.specs.declared.Sizes.{Sizes}
-use Rattle.def_kinds.specs.declared.Answer.TheVariants.{Done}
+use Rattle.def_kinds.specs.Answers.{Done}
 use Rattle.def_state.specs.World.{Body, absent_body, World, Step, done}
 use Rattle.def_state.specs.Fields.{bodies_set}
 use Rattle.table_meaning.specs.Layout.{Tables, tables, total, slots_at, slots_span, slots_put, Extents, extents, members_in}

@@ -11,7 +11,7 @@ use Rattle.list_in_table.specs.Rules.{none}
 use Rattle.def_kinds.specs.Choice.{pick}
 use Rattle.list_in_table.proofs.Laws.{held}
 use Rattle.def_kinds.specs.declared.Sizes.{Sizes}
-use Rattle.def_kinds.specs.declared.Answer.TheVariants.{Done, Nothing, JournalFull}
+use Rattle.def_kinds.specs.Answers.{Done, Nothing, JournalFull}
 use Rattle.def_state.specs.Plain.{top, place_of}
 use Rattle.def_state.specs.World.{ContactLink, absent_contact, World, Step, done, gives, island_at, named, body_island}
 use Rattle.def_state.specs.Fields.{island_set}

@@ -9,7 +9,7 @@ use borrow.Author.Tests.{eq-eqb, ne_eqb, le-leb, lt-leb}
 use lib.ListN.{length, get_or}
 use Rattle.def_kinds.specs.Choice.{pick}
 use Rattle.def_kinds.specs.declared.Sizes.{Sizes}
-use Rattle.def_kinds.specs.declared.Answer.TheVariants.{Done, Nothing, JournalFull}
+use Rattle.def_kinds.specs.Answers.{Done, Nothing, JournalFull}
 use Rattle.def_state.specs.Plain.{top}
 use Rattle.def_state.specs.World.{Handle, Key, JointLink, absent_joint, World, done, gives, island_at}
 use Rattle.def_state.specs.Links.{key_place, joint_home, same_handle, journal_removal, journal_refuses, joint_removed, unlink_joint}

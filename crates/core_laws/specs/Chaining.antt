@@ -1,7 +1,7 @@
 -- The lent list of a chain refresh, and what its loops do.
 use Rattle.std.specs.Prelude.{◌≡◌, List, [], ◌∷◌, ℕ, zero, suc, ◌+◌, ◌*◌, ◌≤◌, length, Bool}
 use Rattle.def_kinds.specs.declared.Sizes.{Sizes}
-use Rattle.def_kinds.specs.declared.Answer.{Answer}
+use Rattle.def_kinds.specs.Answers.{Answer}
 use Rattle.def_state.specs.World.{Handle, World, Step, done}
 use Rattle.def_state.specs.Chain.{chainable, linked, linked_all}
 use Rattle.def_kinds.specs.Choice.{pick}

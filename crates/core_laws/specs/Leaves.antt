@@ -2,7 +2,7 @@
 use Rattle.std.specs.Prelude.{◌≡◌, true, List, ℕ}
 use Rattle.list_in_table.specs.Rules.{none}
 use Rattle.def_kinds.specs.declared.Sizes.{Sizes}
-use Rattle.def_kinds.specs.declared.Answer.{Answer}
+use Rattle.def_kinds.specs.Answers.{Answer}
 use Rattle.def_state.specs.World.{World, Step, done, named}
 use Rattle.def_state.specs.Membership.{free_island, remove}
 use Rattle.table_meaning.specs.Layout.{tables, head_put, extents, members_in}

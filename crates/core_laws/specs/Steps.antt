@@ -4,7 +4,7 @@ use Rattle.list_in_table.specs.Rules.{none}
 use Rattle.list_in_table.specs.Word.{writes}
 use Rattle.def_kinds.specs.Choice.{pick}
 use Rattle.def_kinds.specs.declared.Sizes.{Sizes}
-use Rattle.def_kinds.specs.declared.Answer.TheVariants.{Done}
+use Rattle.def_kinds.specs.Answers.{Done}
 use Rattle.def_state.specs.Plain.{top, empty, drop_last, last_of, swap_remove, place_of}
 use Rattle.def_state.specs.World.{Handle, Body, JointLink, absent_joint, Island, absent_island, World, Step, done, island_at}
 use Rattle.def_state.specs.Fields.{bodies_set, islands_set, free_set, places_set, island_set, contacts_set, joints_set}

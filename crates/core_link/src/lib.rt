@@ -12,7 +12,7 @@ ghost use Rattle.core_laws.specs.Lives.{Lives};
 ghost use Rattle.core_laws.specs.Linking.{joint_hold};
 ghost use Rattle.core_laws.specs.Places.{KeyRule};
 
-use def_kinds::{Answer, NONE, Sizes};
+use def_kinds::{Answer, NONE, Outcome, Refusal, Sizes};
 use table_meaning::Table;
 
 // Contact link, on sound tables.
@@ -29,29 +29,29 @@ pub fn link_contact_on(
     ensures { Does z (link_contact z e (handle s1 g1) (handle s2 g2)) t.old result t.new }
 {
     if e >= z.edges {
-        return Answer::OverSize;
+        return Err(Refusal::OverSize);
     }
     core_contact::grow_edges(t, z, e + 1);
     let home = table_words::home(t, z, Table::Contacts, e);
     if home != NONE {
-        return Answer::Nothing;
+        return Ok(Outcome::Nothing);
     }
     let a = core_contact::body_island(t, z, s1, g1);
     let b = core_contact::body_island(t, z, s2, g2);
     if a == NONE {
         if b == NONE {
-            return Answer::Nothing;
+            return Ok(Outcome::Nothing);
         }
         core_contact::push_contact(t, z, b, e, s1, g1, s2, g2);
-        return Answer::Done;
+        return Ok(Outcome::Done);
     }
     if b == NONE {
         core_contact::push_contact(t, z, a, e, s1, g1, s2, g2);
-        return Answer::Done;
+        return Ok(Outcome::Done);
     }
     let i = core_merge::merge_islands(t, z, a, b);
     core_contact::push_contact(t, z, i, e, s1, g1, s2, g2);
-    Answer::Done
+    Ok(Outcome::Done)
 }
 
 // A place is taken for a joint link, the last of the island i.
@@ -93,29 +93,29 @@ pub fn link_joint_on(
 {
     let p = core_joint::find_place(t, z, kind, a, b, c);
     if p != NONE {
-        return Answer::Nothing;
+        return Ok(Outcome::Nothing);
     }
     let i = core_contact::body_island(t, z, s1, g1);
     let j = core_contact::body_island(t, z, s2, g2);
     let room = core_joint::joint_room(t, z);
     if i == NONE {
         if j == NONE {
-            return Answer::Nothing;
+            return Ok(Outcome::Nothing);
         }
         if room == 0 {
-            return Answer::JointsFull;
+            return Err(Refusal::JointsFull);
         }
         hold_joint(t, z, j, kind, a, b, c, s1, g1, s2, g2);
-        return Answer::Done;
+        return Ok(Outcome::Done);
     }
     if room == 0 {
-        return Answer::JointsFull;
+        return Err(Refusal::JointsFull);
     }
     if j == NONE {
         hold_joint(t, z, i, kind, a, b, c, s1, g1, s2, g2);
-        return Answer::Done;
+        return Ok(Outcome::Done);
     }
     let k = core_merge::merge_islands(t, z, i, j);
     hold_joint(t, z, k, kind, a, b, c, s1, g1, s2, g2);
-    Answer::Done
+    Ok(Outcome::Done)
 }

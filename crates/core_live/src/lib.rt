@@ -37,5 +37,5 @@ pub fn clear_pending_split_of(t: &mut [u32], z: Sizes, i: u32)
     if island != i {
         return;
     }
-    table_words::set2(t, z, Table::Head, word::IS_PENDING, 0, 0);
+    table_words::set_all(t, z, Table::Head, word::IS_PENDING, &[0, 0]);
 }

@@ -51,7 +51,7 @@ fn mix_rows(t: &mut [u32], z: Sizes, big: u32, small: u32)
     let asleep = both_asleep(big_asleep, small_asleep);
     table_words::set(t, z, Table::Rows, big_row, count);
     table_words::set(t, z, Table::Rows, big_row + word::ASLEEP, asleep);
-    table_words::set3(t, z, Table::Rows, small_row, 0, 0, 0);
+    table_words::set_all(t, z, Table::Rows, small_row, &[0, 0, 0]);
 }
 
 // The island small goes into big: its links and bodies are put behind big's, in order; counts add, sleeping only if both slept, and its denial is lost. Its number is freed, and a pending split of it is cleared. The work is that of small.

@@ -14,7 +14,7 @@ use Rattle.list_in_table.proofs.Laws.{held}
 use Rattle.list_in_table.proofs.Order.{length-list, list-of}
 use Rattle.list_in_buffer.specs.Part.{Put}
 use Rattle.def_kinds.specs.declared.Sizes.{Sizes}
-use Rattle.def_kinds.specs.declared.Answer.TheVariants.{Done, Nothing}
+use Rattle.def_kinds.specs.Answers.{Done, Nothing}
 use Rattle.def_kinds.specs.declared.IslandAnswer.{IslandAnswer}
 use Rattle.def_state.specs.Plain.{more}
 use Rattle.def_state.specs.World.{Island, World, island_at, named, island_of, body_island}

@@ -14,7 +14,7 @@ ghost use Rattle.core_laws.specs.Steps.{handle, leave, leave_last};
 ghost use Rattle.core_laws.specs.Drops.{Dropped, Cleared, JointDropped, JointsCleared};
 ghost use Rattle.core_laws.specs.Leaves.{freeing, BodyLeft, Removes};
 
-use def_kinds::{Answer, Island, IslandAnswer, NONE, Sizes};
+use def_kinds::{Answer, Island, NONE, Outcome, Sizes, IslandAnswer};
 use table_meaning::{Table, word};
 
 // A count and one more; counts stop at 4294967295.
@@ -34,16 +34,7 @@ fn drop_contact(t: &mut [u32], z: Sizes, i: u32)
 {
     let e = table_words::last(t, z, Table::Contacts, i);
     table_words::remove(t, z, Table::Contacts, e);
-    table_words::set4(
-        t,
-        z,
-        Table::Touches,
-        word::TOUCH * (e as usize),
-        NONE,
-        NONE,
-        NONE,
-        NONE,
-    );
+    table_words::set_all(t, z, Table::Touches, word::TOUCH * (e as usize), &[NONE, NONE, NONE, NONE]);
 }
 
 // All contact links of the island i go.
@@ -67,17 +58,8 @@ fn drop_joint(t: &mut [u32], z: Sizes, i: u32)
     let p = table_words::last(t, z, Table::Joints, i);
     let at = word::KEY * (p as usize);
     table_words::remove(t, z, Table::Joints, p);
-    table_words::set4(t, z, Table::Keys, at, NONE, NONE, NONE, NONE);
-    table_words::set4(
-        t,
-        z,
-        Table::Keys,
-        at + word::KEY_BODIES,
-        NONE,
-        NONE,
-        NONE,
-        NONE,
-    );
+    table_words::set_all(t, z, Table::Keys, at, &[NONE, NONE, NONE, NONE]);
+    table_words::set_all(t, z, Table::Keys, at + word::KEY_BODIES, &[NONE, NONE, NONE, NONE]);
     table_words::push(t, z, Table::Spare, 0, p);
 }
 
@@ -111,7 +93,7 @@ pub fn leave_last(t: &mut [u32], z: Sizes, s: u32, i: u32)
     ensures { BodyLeft z (leave_last i) s t.old t.new }
 {
     table_words::remove(t, z, Table::Members, s);
-    table_words::set3(t, z, Table::Rows, word::ROW * (i as usize), 0, 0, 0);
+    table_words::set_all(t, z, Table::Rows, word::ROW * (i as usize), &[0, 0, 0]);
     table_words::push(t, z, Table::Freed, 0, i);
 }
 
@@ -132,19 +114,19 @@ pub fn remove_on(t: &mut [u32], z: Sizes, s: u32, g: u32) -> Answer
     ensures { Removes z s g t.old result t.new }
 {
     if !core_body::is_named(t, z, s, g) {
-        return Answer::Nothing;
+        return Ok(Outcome::Nothing);
     }
     let i = table_words::home(t, z, Table::Members, s);
     if i == NONE {
-        return Answer::Nothing;
+        return Ok(Outcome::Nothing);
     }
     let bodies = table_words::count(t, z, Table::Members, i);
     if bodies == 1 {
         remove_only(t, z, s, i);
-        return Answer::Done;
+        return Ok(Outcome::Done);
     }
     leave_some(t, z, s, i);
-    Answer::Done
+    Ok(Outcome::Done)
 }
 
 // retire, on sound tables.
@@ -153,11 +135,11 @@ pub fn retire_on(t: &mut [u32], z: Sizes, s: u32, g: u32) -> Answer
     ensures { Does z (retire (handle s g)) t.old result t.new }
 {
     if !core_body::is_named(t, z, s, g) {
-        return Answer::Nothing;
+        return Ok(Outcome::Nothing);
     }
     remove_on(t, z, s, g);
     core_body::empty_slot(t, z, s, g);
-    Answer::Done
+    Ok(Outcome::Done)
 }
 
 // A body's island, on sound tables.
@@ -167,13 +149,13 @@ pub fn island_on(t: &[u32], z: Sizes, s: u32, g: u32) -> IslandAnswer
 {
     if !core_body::is_named(t, z, s, g) {
         return IslandAnswer {
-            answer: Answer::Done,
+            answer: Ok(Outcome::Done),
             island: Island(NONE),
         };
     }
     let i = table_words::home(t, z, Table::Members, s);
     IslandAnswer {
-        answer: Answer::Done,
+        answer: Ok(Outcome::Done),
         island: Island(i),
     }
 }

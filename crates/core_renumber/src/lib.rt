@@ -9,9 +9,9 @@ ghost use Rattle.table_meaning.specs.Layout.{tables, total, table_at, table_span
 ghost use Rattle.table_meaning.specs.Sound.{Sound};
 ghost use Rattle.table_meaning.specs.Does.{Does};
 ghost use Rattle.core_laws.specs.Renumbering.{Handing};
-ghost use Rattle.def_kinds.specs.declared.Answer.TheVariants.{Done};
+ghost use Rattle.def_kinds.specs.Answers.{Done};
 
-use def_kinds::{Answer, NONE, Sizes};
+use def_kinds::{Answer, NONE, Outcome, Refusal, Sizes};
 use table_meaning::{Table, word};
 
 // In the table of k words at a: the element from, the last in use, hands its place in its list to the element to, which is in no list.
@@ -40,35 +40,11 @@ fn hand_over(t: &mut [u32], z: Sizes, removed: u32, last: u32)
     ensures { Does z (contact_edge_removed removed last) t.old Done t.new }
 {
     let s1 = table_words::get(t, z, Table::Touches, word::TOUCH * (last as usize));
-    let g1 = table_words::get(
-        t,
-        z,
-        Table::Touches,
-        word::TOUCH * (last as usize) + word::GENERATION1,
-    );
-    let s2 = table_words::get(
-        t,
-        z,
-        Table::Touches,
-        word::TOUCH * (last as usize) + word::SLOT2,
-    );
-    let g2 = table_words::get(
-        t,
-        z,
-        Table::Touches,
-        word::TOUCH * (last as usize) + word::GENERATION2,
-    );
+    let g1 = table_words::get(t, z, Table::Touches, word::TOUCH * (last as usize) + word::GENERATION1);
+    let s2 = table_words::get(t, z, Table::Touches, word::TOUCH * (last as usize) + word::SLOT2);
+    let g2 = table_words::get(t, z, Table::Touches, word::TOUCH * (last as usize) + word::GENERATION2);
     rename_at(t, z, Table::Contacts, last, removed);
-    table_words::set4(
-        t,
-        z,
-        Table::Touches,
-        word::TOUCH * (removed as usize),
-        s1,
-        g1,
-        s2,
-        g2,
-    );
+    table_words::set_all(t, z, Table::Touches, word::TOUCH * (removed as usize), &[s1, g1, s2, g2]);
     table_words::set(t, z, Table::Head, word::TRACKED, last);
 }
 
@@ -79,22 +55,22 @@ pub fn renumber_on(t: &mut [u32], z: Sizes, removed: u32, last: u32) -> Answer
 {
     let tracked = table_words::get(t, z, Table::Head, word::TRACKED);
     if removed >= tracked {
-        return Answer::Nothing;
+        return Ok(Outcome::Nothing);
     }
     // The last edge; last + 1 need not fit, and n is not 0 here.
     let last_edge = tracked - 1;
     let home = table_words::home(t, z, Table::Contacts, removed);
     if home != NONE {
-        return Answer::StillLinked;
+        return Err(Refusal::StillLinked);
     }
     if last_edge != last {
-        return Answer::Nothing; // another edge is the last
+        return Ok(Outcome::Nothing); // another edge is the last
     }
     let last_home = table_words::home(t, z, Table::Contacts, last);
     if last_home == NONE {
         table_words::set(t, z, Table::Head, word::TRACKED, last);
-        return Answer::Done;
+        return Ok(Outcome::Done);
     }
     hand_over(t, z, removed, last);
-    Answer::Done
+    Ok(Outcome::Done)
 }

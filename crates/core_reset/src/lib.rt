@@ -4,7 +4,7 @@
 ghost use Rattle.std.specs.Prelude.{◌≤◌};
 ghost use Rattle.table_meaning.specs.Does.{Reset};
 
-use def_kinds::{Answer, NONE, Sizes};
+use def_kinds::{Answer, NONE, Outcome, Refusal, Sizes};
 use table_meaning::{Table, word};
 
 // Empties the tables, whatever they hold: 15 words, however large they are.
@@ -14,14 +14,14 @@ pub fn reset_of(t: &mut [u32], z: Sizes) -> Answer
 {
     let long = table_words::buffer_long(z);
     if t.len() != long {
-        return Answer::BadTables;
+        return Err(Refusal::BadTables);
     }
     let islands = table_words::ends_at(z, Table::Freed);
     let joints = table_words::ends_at(z, Table::Spare);
-    table_words::set5(t, z, Table::Head, word::SLOTS_USED, 0, 0, 0, 0, 0);
-    table_words::set4(t, z, Table::Head, word::IS_PENDING, 0, 0, 0, 0);
-    table_words::set2(t, z, Table::Freed, islands, 0, NONE);
-    table_words::set2(t, z, Table::Spare, joints, 0, NONE);
-    table_words::set2(t, z, Table::Scan, islands, 0, NONE);
-    Answer::Done
+    table_words::set_all(t, z, Table::Head, word::SLOTS_USED, &[0, 0, 0, 0, 0]);
+    table_words::set_all(t, z, Table::Head, word::IS_PENDING, &[0, 0, 0, 0]);
+    table_words::set_all(t, z, Table::Freed, islands, &[0, NONE]);
+    table_words::set_all(t, z, Table::Spare, joints, &[0, NONE]);
+    table_words::set_all(t, z, Table::Scan, islands, &[0, NONE]);
+    Ok(Outcome::Done)
 }

@@ -7,7 +7,7 @@ ghost use Rattle.table_meaning.specs.Sound.{Sound};
 ghost use Rattle.table_meaning.specs.Does.{Does};
 ghost use Rattle.core_laws.specs.Resolving.{entry_of, Counted};
 
-use def_kinds::{Answer, NONE, Sizes};
+use def_kinds::{Answer, NONE, Outcome, Sizes};
 use table_meaning::{Table, word};
 
 // One entry: where both handles are members of one island, its count rises by 1.
@@ -33,21 +33,21 @@ pub fn resolve_on(t: &mut [u32], z: Sizes) -> Answer
     requires { Sound z t.old }
     ensures { Does z resolve_removals t.old result t.new }
 {
-    let entries = table_words::head_word(t, z, word::JOURNAL_USED);
+    let entries = table_words::get(t, z, Table::Head, word::JOURNAL_USED);
     if entries == 0 {
-        return Answer::Nothing;
+        return Ok(Outcome::Nothing);
     }
     let mut k: u32 = 0;
     // One turn for each entry of the journal: at most as many as it has room for.
     while k < entries {
         let at = word::ENTRY * (k as usize);
-        let s1 = table_words::journal_word(t, z, at);
-        let g1 = table_words::journal_word(t, z, at + word::GENERATION1);
-        let s2 = table_words::journal_word(t, z, at + word::SLOT2);
-        let g2 = table_words::journal_word(t, z, at + word::GENERATION2);
+        let s1 = table_words::get(t, z, Table::Journal, at);
+        let g1 = table_words::get(t, z, Table::Journal, at + word::GENERATION1);
+        let s2 = table_words::get(t, z, Table::Journal, at + word::SLOT2);
+        let g2 = table_words::get(t, z, Table::Journal, at + word::GENERATION2);
         count_entry(t, z, s1, g1, s2, g2);
         k += 1;
     }
-    table_words::set_head(t, z, word::JOURNAL_USED, 0);
-    Answer::Done
+    table_words::set(t, z, Table::Head, word::JOURNAL_USED, 0);
+    Ok(Outcome::Done)
 }

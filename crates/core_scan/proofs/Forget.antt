@@ -10,7 +10,7 @@ use Rattle.list_in_table.specs.Table.{view, removed}
 use Rattle.list_in_table.proofs.Laws.{either}
 use Rattle.list_in_buffer.specs.Part.{Put}
 use Rattle.def_kinds.specs.declared.Sizes.{Sizes}
-use Rattle.def_kinds.specs.declared.Answer.TheVariants.{Done}
+use Rattle.def_kinds.specs.Answers.{Done}
 use Rattle.def_state.specs.Plain.{drop_last}
 use Rattle.def_state.specs.World.{Observed, World, done}
 use Rattle.def_state.specs.Fields.{scan_set}

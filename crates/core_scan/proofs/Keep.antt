@@ -10,7 +10,7 @@ use Rattle.list_in_table.specs.Word.{writes, miss, hit}
 use Rattle.list_in_buffer.specs.Part.{Put}
 use Rattle.def_kinds.specs.declared.Sizes.{Sizes}
 use Rattle.def_kinds.specs.declared.Scan.{Scan}
-use Rattle.def_kinds.specs.declared.Answer.TheVariants.{Done}
+use Rattle.def_kinds.specs.Answers.{Done}
 use Rattle.def_state.specs.World.{World, done}
 use Rattle.def_state.specs.Fields.{scan_set}
 use Rattle.def_state.specs.Scan.{begin_sleep_scan}

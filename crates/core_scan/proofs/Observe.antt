@@ -16,7 +16,7 @@ use Rattle.list_in_table.proofs.Pigeon.{count-lt}
 use Rattle.list_in_buffer.specs.Part.{Put}
 use Rattle.def_kinds.specs.declared.Sizes.{Sizes}
 use Rattle.def_kinds.specs.declared.Scan.{Scan}
-use Rattle.def_kinds.specs.declared.Answer.TheVariants.{Done, NoIsland, NoScan}
+use Rattle.def_kinds.specs.Answers.{Done, NoIsland, NoScan}
 use Rattle.def_state.specs.World.{Observed, done, live}
 use Rattle.def_state.specs.Fields.{scan_set}
 use Rattle.def_state.specs.Scan.{observed, observe_body_for_sleep}

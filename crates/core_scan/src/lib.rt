@@ -9,7 +9,7 @@ ghost use Rattle.table_meaning.specs.Does.{Does};
 ghost use Rattle.core_laws.specs.Steps.{Steps};
 ghost use Rattle.core_scan.specs.Scanning.{stamped, noting, ScanIs, Fitting, Forgot, Forgotten, Unheard, Heard};
 
-use def_kinds::{Answer, NONE, Scan, Sizes};
+use def_kinds::{Answer, NONE, Outcome, Refusal, Scan, Sizes};
 use table_meaning::{Table, word};
 
 // The scan that the tables hold.
@@ -36,7 +36,7 @@ pub fn keep_scan(t: &mut [u32], z: Sizes, scan: Scan)
     let stamp = scan.stamp;
     let open = scan.open;
     let word = core_body::bit(open);
-    table_words::set2(t, z, Table::Head, word::STAMP, stamp, word);
+    table_words::set_all(t, z, Table::Head, word::STAMP, &[stamp, word]);
 }
 
 // The island that was observed last is forgotten.
@@ -71,7 +71,7 @@ pub fn begin_on(t: &mut [u32], z: Sizes) -> Answer
     let scan = scan_of(t, z);
     let opened = scan.begin();
     keep_scan(t, z, opened);
-    Answer::Done
+    Ok(Outcome::Done)
 }
 
 // The first observation of the island i.
@@ -104,17 +104,17 @@ pub fn observe_on(t: &mut [u32], z: Sizes, i: u32, eligible: bool) -> Answer
     ensures { Does z (observe_body_for_sleep i eligible) t.old result t.new }
 {
     if !core_live::is_live(t, z, i) {
-        return Answer::NoIsland;
+        return Err(Refusal::NoIsland);
     }
     let open = table_words::get(t, z, Table::Head, word::SCAN_OPEN);
     if open != 1 {
-        return Answer::NoScan;
+        return Err(Refusal::NoScan);
     }
     let home = table_words::home(t, z, Table::Scan, i);
     if home == NONE {
         observe_first(t, z, i, eligible);
-        return Answer::Done;
+        return Ok(Outcome::Done);
     }
     observe_again(t, z, i, eligible);
-    Answer::Done
+    Ok(Outcome::Done)
 }

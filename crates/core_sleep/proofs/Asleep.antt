@@ -8,7 +8,7 @@ use lib.ListN.{length, get_or, set}
 use lib.Seq.{get_or-set_same, get_or-set_other}
 use Rattle.list_in_buffer.specs.Part.{Put}
 use Rattle.def_kinds.specs.declared.Sizes.{Sizes}
-use Rattle.def_kinds.specs.declared.Answer.TheVariants.{Done, NoIsland}
+use Rattle.def_kinds.specs.Answers.{Done, NoIsland}
 use Rattle.def_state.specs.World.{live}
 use Rattle.def_state.specs.Fields.{sleeping_set}
 use Rattle.def_state.specs.Scan.{mark_island_sleeping, wake_island}

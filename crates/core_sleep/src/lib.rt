@@ -8,7 +8,7 @@ ghost use Rattle.core_laws.specs.Steps.{Steps};
 ghost use Rattle.core_laws.specs.Lives.{Lives};
 ghost use Rattle.core_sleep.specs.Resting.{rest_as};
 
-use def_kinds::{Answer, Sizes};
+use def_kinds::{Answer, Outcome, Refusal, Sizes};
 use table_meaning::{Table, word};
 
 // The live island i sleeps, or not.
@@ -17,13 +17,7 @@ fn rest(t: &mut [u32], z: Sizes, i: u32, asleep: bool)
     ensures { Steps z (rest_as i asleep) t.old t.new }
 {
     let word = core_body::bit(asleep);
-    table_words::set(
-        t,
-        z,
-        Table::Rows,
-        word::ROW * (i as usize) + word::ASLEEP,
-        word,
-    );
+    table_words::set(t, z, Table::Rows, word::ROW * (i as usize) + word::ASLEEP, word);
 }
 
 // mark_island_sleeping, on sound tables.
@@ -32,11 +26,11 @@ pub fn sleep_on(t: &mut [u32], z: Sizes, i: u32) -> Answer
     ensures { Does z (mark_island_sleeping i) t.old result t.new }
 {
     if !core_live::is_live(t, z, i) {
-        return Answer::NoIsland;
+        return Err(Refusal::NoIsland);
     }
     rest(t, z, i, true);
     core_live::clear_pending_split_of(t, z, i);
-    Answer::Done
+    Ok(Outcome::Done)
 }
 
 // An island wakes, on sound tables.
@@ -45,8 +39,8 @@ pub fn wake_on(t: &mut [u32], z: Sizes, i: u32) -> Answer
     ensures { Does z (wake_island i) t.old result t.new }
 {
     if !core_live::is_live(t, z, i) {
-        return Answer::NoIsland;
+        return Err(Refusal::NoIsland);
     }
     rest(t, z, i, false);
-    Answer::Done
+    Ok(Outcome::Done)
 }

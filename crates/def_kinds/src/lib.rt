@@ -1,24 +1,24 @@
 // The types that every crate shares: numbers by kind, handles, joint keys, answers, the scan, sizes.
 #![tactic(auto)]
 
-ghost use Rattle.std.specs.Prelude.{◌≡◌, ℕ, ◌+◌, ◌%◌, ◌<◌, true, false};
+ghost use Rattle.std.specs.Prelude.{◌≡◌, ◌+◌, ◌%◌, ◌<◌, true, false, Ok, Err};
 ghost use Rattle.def_kinds.specs.Number.{number};
 
 // The number of no slot, no island, no edge and no place.
 pub const NONE: u32 = 4294967295;
 
 // A body slot, an island number and an edge number: three types, so that a call with the wrong kind of number does not compile.
-#[derive(Clone, Copy)]
+#[derive(Clone, Copy, Debug, PartialEq, Eq)]
 pub struct Slot(pub u32);
 
-#[derive(Clone, Copy)]
+#[derive(Clone, Copy, Debug, PartialEq, Eq)]
 pub struct Island(pub u32);
 
-#[derive(Clone, Copy)]
+#[derive(Clone, Copy, Debug, PartialEq, Eq)]
 pub struct Edge(pub u32);
 
 // A body: its slot, and which of the slot's bodies it is.
-#[derive(Clone, Copy)]
+#[derive(Clone, Copy, Debug, PartialEq, Eq)]
 pub struct Handle {
     pub slot: Slot,
     pub generation: u32,
@@ -39,17 +39,22 @@ impl Handle {
 }
 
 // What a joint link is known by (JointLinkKey).
-#[derive(Clone, Copy)]
+#[derive(Clone, Copy, Debug, PartialEq, Eq)]
 pub enum JointKey {
     Impulse { index: u32, generation: u32 },
     Chain { multibody: u64, ordinal: u32 },
 }
 
-// What a call answers. The numbers of document 01 are those of the definition `number`.
-#[derive(Clone, Copy)]
-pub enum Answer {
+// What a call did that was not refused.
+#[derive(Clone, Copy, Debug, PartialEq, Eq)]
+pub enum Outcome {
     Done,
     Nothing,
+}
+
+// Why a call is refused.
+#[derive(Clone, Copy, Debug, PartialEq, Eq)]
+pub enum Refusal {
     OverSize,
     StillLinked,
     JointsFull,
@@ -62,46 +67,47 @@ pub enum Answer {
     BadGeneration,
 }
 
-impl Answer {
-    pub fn number(self) -> u32
-        ensures { result ≡ number self }
-    {
-        match self {
-            Answer::Done => 0,
-            Answer::Nothing => 1,
-            Answer::OverSize => 2,
-            Answer::StillLinked => 3,
-            Answer::JointsFull => 4,
-            Answer::JournalFull => 5,
-            Answer::NoIsland => 6,
-            Answer::NoScan => 7,
-            Answer::TooShort => 8,
-            Answer::BadTables => 9,
-            Answer::SlotTaken => 10,
-            Answer::BadGeneration => 11,
+// What a call answers. A question has its value in place of the outcome, where it is not refused.
+pub type Answer = Result<Outcome, Refusal>;
+
+impl From<Outcome> for u32 {
+    ghost from_gives = { λ outcome n. n ≡ number (Ok outcome) };
+
+    fn from(outcome: Outcome) -> u32 {
+        match outcome {
+            Outcome::Done => 0,
+            Outcome::Nothing => 1,
         }
     }
 }
 
-// The answer to "whose island": the number is NONE for none, and with any other answer than Done.
-#[derive(Clone, Copy)]
-pub struct IslandAnswer {
-    pub answer: Answer,
-    pub island: Island,
+impl From<Refusal> for u32 {
+    ghost from_gives = { λ refusal n. n ≡ number (Err refusal) };
+
+    fn from(refusal: Refusal) -> u32 {
+        match refusal {
+            Refusal::OverSize => 2,
+            Refusal::StillLinked => 3,
+            Refusal::JointsFull => 4,
+            Refusal::JournalFull => 5,
+            Refusal::NoIsland => 6,
+            Refusal::NoScan => 7,
+            Refusal::TooShort => 8,
+            Refusal::BadTables => 9,
+            Refusal::SlotTaken => 10,
+            Refusal::BadGeneration => 11,
+        }
+    }
 }
 
-// The answer to "which islands may sleep": how many were listed, 0 with any other answer than Done.
-#[derive(Clone, Copy)]
-pub struct ListAnswer {
-    pub answer: Answer,
-    pub length: u32,
-}
-
-// The answer to "may this island bid": yes only with the answer Done.
-#[derive(Clone, Copy)]
-pub struct BidAnswer {
-    pub answer: Answer,
-    pub yes: bool,
+// The number of an answer, as the definition `number` has it.
+pub fn number(answer: Answer) -> u32
+    ensures { result ≡ number answer }
+{
+    match answer {
+        Ok(outcome) => u32::from(outcome),
+        Err(refusal) => u32::from(refusal),
+    }
 }
 
 // The sleep scan: its stamp, whether it is open, and how many islands wait in it.
@@ -117,7 +123,7 @@ impl Scan {
     pub fn begin(mut self) -> Self
         ensures { (result.stamp ≡ (self.stamp + 1) % 4294967296) × (result.open ≡ true) × (result.waiting ≡ 0) }
     {
-        self.stamp = std::num::wrapping_add_u32(self.stamp, 1);
+        self.stamp = self.stamp.wrapping_add(1);
         self.open = true;
         self.waiting = 0;
         self
@@ -128,7 +134,7 @@ impl Scan {
         requires { self.waiting < 4294967295 }
         ensures { (result.stamp ≡ self.stamp) × (result.open ≡ self.open) × (result.waiting ≡ self.waiting + 1) }
     {
-        self.waiting = self.waiting + 1;
+        self.waiting += 1;
         self
     }
 

@@ -5,7 +5,7 @@ use mathlib.Core.List.{List, [], ◌∷◌, ◌++◌, map}
 use Prim.Native.Nat.{ℕ, zero, suc}
 use lib.ListN.{length, get_or}
 use Rattle.def_kinds.specs.Number.{number, rig}
-use Rattle.def_kinds.specs.declared.Answer.{Answer}
+use Rattle.def_kinds.specs.Answers.{Answer}
 use Rattle.def_state.specs.Plain.{has, place_of, more}
 use Rattle.def_state.specs.World.{Handle, Island, World, empty_world, named, island_below, island_of, body_island, live}
 use Rattle.def_state.specs.Fields.{island_set}

@@ -1,11 +1,10 @@
 -- The body table (added): put, flags, retire, and asking a body's island.
-use Rattle.std.specs.Prelude.{Bool, true, false, List, [], ◌∷◌, ◌++◌, ℕ, ◌+◌, ◌-◌, length, get_or, set, replicate, eqb, ltb, leb}
+use Rattle.std.specs.Prelude.{Option, Some, None, Result, Ok, Bool, true, false, List, [], ◌∷◌, ◌++◌, ℕ, ◌+◌, ◌-◌, length, get_or, set, replicate, eqb, ltb, leb}
 use Rattle.def_kinds.specs.Choice.{pick}
 use Rattle.def_kinds.specs.declared.Sizes.{Sizes}
-use Rattle.def_kinds.specs.declared.Answer.{Answer}
-use Rattle.def_kinds.specs.declared.Answer.TheVariants.{Done, Nothing, OverSize, SlotTaken, BadGeneration}
+use Rattle.def_kinds.specs.Answers.{Answer, Done, Nothing, OverSize, SlotTaken, BadGeneration}
 use Rattle.def_kinds.specs.declared.Island.{Island as IslandNumber}
-use Rattle.def_kinds.specs.declared.IslandAnswer.{IslandAnswer}
+use Rattle.def_kinds.specs.declared.Refusal.{Refusal}
 use Rattle.def_state.specs.Plain.{top}
 use Rattle.def_state.specs.World.{Handle, Body, absent_body, World, Step, done, gives, body_of, named, body_island}
 use Rattle.def_state.specs.Fields.{bodies_set}
@@ -47,6 +46,10 @@ vacate h w = bodies_set w (set w.bodies h.slot (vacated h.generation))
 unfoldable pub retire : Handle → World → Step
 retire h w = pick (named w h) (done (vacate h (remove h w).after)) (gives Nothing w)
 
--- a body's island: always Done, with its number, or top for none
-unfoldable pub island : Handle → World → IslandAnswer
-island h w = record { answer = Done; island = record { 0 = body_island w h } }
+-- the island with this number; top: none
+abbrev pub numbered : ℕ → Option IslandNumber
+numbered i = pick (eqb i top) None (Some (record { 0 = i }))
+
+-- a body's island: never refused; the island, or none
+unfoldable pub island : Handle → World → Result (Option IslandNumber) Refusal
+island h w = Ok (numbered (body_island w h))

@@ -1,7 +1,7 @@
 -- Every call of document 01 with what it is given, and its definition.
 use Rattle.std.specs.Prelude.{Bool, List, [], ◌∷◌, ℕ}
 use Rattle.def_kinds.specs.declared.Sizes.{Sizes}
-use Rattle.def_kinds.specs.declared.Answer.{Answer}
+use Rattle.def_kinds.specs.Answers.{Answer}
 use Rattle.def_state.specs.World.{Handle, Key, World, empty_world, Step, done, gives}
 use Rattle.def_state.specs.Bodies.{put, retire, flags}
 use Rattle.def_state.specs.Membership.{ensure, remove}

@@ -2,7 +2,7 @@
 use Rattle.std.specs.Prelude.{Bool, true, false, ◌&&◌, ◌||◌, not, List, [], ◌∷◌, ◌++◌, map, ℕ, zero, suc, ◌+◌, ◌-◌, length, get_or, set, eqb, ltb, leb}
 use Rattle.def_kinds.specs.Choice.{pick}
 use Rattle.def_kinds.specs.declared.Sizes.{Sizes}
-use Rattle.def_kinds.specs.declared.Answer.TheVariants.{Nothing, OverSize, StillLinked, JointsFull, JournalFull}
+use Rattle.def_kinds.specs.Answers.{Nothing, OverSize, StillLinked, JointsFull, JournalFull}
 use Rattle.def_state.specs.Plain.{top, empty, has, place_of, drop_last, last_of, swap_remove}
 use Rattle.def_state.specs.World.{Handle, Key, impulse, chain, ContactLink, absent_contact, JointLink, absent_joint, Island, absent_island, Removal, World, Step, done, gives, island_at, body_island}
 use Rattle.def_state.specs.Fields.{free_set, tracked_set, places_set, journal_set, island_set, contacts_set, joints_set}

@@ -2,7 +2,7 @@
 use Rattle.std.specs.Prelude.{Bool, true, false, List, [], ◌∷◌, ◌++◌, map, reverse, ℕ, ◌+◌, ◌-◌, length, get_or, set, eqb}
 use Rattle.std.proofs.Math.Option.{Option, none, some}
 use Rattle.def_kinds.specs.Choice.{pick}
-use Rattle.def_kinds.specs.declared.Answer.TheVariants.{Nothing}
+use Rattle.def_kinds.specs.Answers.{Nothing}
 use Rattle.def_state.specs.Plain.{top, empty, place_of, drop_last, last_of, swap_remove, more}
 use Rattle.def_state.specs.World.{Handle, Body, JointLink, Island, absent_island, World, Step, done, gives, body_of, island_at, named, island_of}
 use Rattle.def_state.specs.Fields.{islands_set, free_set, places_set, split_set, island_set}

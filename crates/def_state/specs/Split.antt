@@ -16,8 +16,7 @@
 use Rattle.std.specs.Prelude.{Bool, true, false, not, ◌&&◌, List, [], ◌∷◌, ◌++◌, map, ℕ, zero, suc, ◌+◌, ◌-◌, length, get_or, set, eqb, ltb, leb}
 use Rattle.std.proofs.Math.Option.{Option, none, some}
 use Rattle.def_kinds.specs.Choice.{pick}
-use Rattle.def_kinds.specs.declared.Answer.{Answer}
-use Rattle.def_kinds.specs.declared.Answer.TheVariants.{Done, Nothing, NoIsland}
+use Rattle.def_kinds.specs.Answers.{Answer, Done, Nothing, NoIsland}
 use Rattle.def_state.specs.Plain.{top, place_of, swap_remove}
 use Rattle.def_state.specs.World.{Handle, ContactLink, absent_contact, JointLink, absent_joint, Island, absent_island, World, Step, done, gives, island_at, body_island, live}
 use Rattle.def_state.specs.Fields.{split_set, island_set, joints_set, members_set}

@@ -3,8 +3,7 @@
 use Rattle.std.specs.Prelude.{Bool, true, false, ◌&&◌, not, List, [], ◌∷◌, ◌++◌, ℕ, zero, suc, length, get_or, set, eqb, leb}
 use Rattle.std.proofs.Math.Option.{Option, none, some}
 use Rattle.def_kinds.specs.Choice.{pick}
-use Rattle.def_kinds.specs.declared.Answer.{Answer}
-use Rattle.def_kinds.specs.declared.Answer.TheVariants.{Done}
+use Rattle.def_kinds.specs.Answers.{Answer, Done}
 use Rattle.def_state.specs.Plain.{top, has}
 
 -- RigidBodyHandle

@@ -6,8 +6,7 @@ use mathlib.Core.List.{List}
 use Prim.Native.Nat.{ℕ}
 use Rattle.list_in_table.specs.Rules.{Is}
 use Rattle.def_kinds.specs.declared.Sizes.{Sizes}
-use Rattle.def_kinds.specs.declared.Answer.{Answer}
-use Rattle.def_kinds.specs.declared.Answer.TheVariants.{Done, BadTables}
+use Rattle.def_kinds.specs.Answers.{Answer, Done, BadTables}
 use Rattle.def_state.specs.World.{World, Step}
 use Rattle.table_meaning.specs.Decode.{world_of}
 use Rattle.table_meaning.specs.Sound.{Sound}

@@ -1,3 +1,2 @@
 -- Definitions that the contracts cite.
 pub mod Refusal
-pub mod Keys

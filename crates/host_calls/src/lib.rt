@@ -12,14 +12,12 @@ ghost use Rattle.core_laws.specs.Chaining.{handles_from};
 ghost use Rattle.table_meaning.specs.Does.{Called, Asks, Reset};
 ghost use Rattle.def_state.specs.Split.{split_island_now, schedule_split, run_pending_split};
 ghost use Rattle.host_calls.specs.Refusal.{refused_island, may_bid, refused_bid};
-ghost use Rattle.host_calls.specs.Keys.{key_is};
+ghost use Rattle.table_meaning.specs.Keys.{key_is};
 ghost use Rattle.core_laws.specs.Steps.{handle};
 ghost use Rattle.def_state.specs.Scan.{begin_sleep_scan, observe_body_for_sleep, mark_island_sleeping, wake_island};
 ghost use Rattle.core_finish.specs.Listing.{Finish};
 
-use def_kinds::{
-    Answer, BidAnswer, Edge, Handle, Island, IslandAnswer, JointKey, ListAnswer, Sizes,
-};
+use def_kinds::{Answer, Edge, Handle, Island, JointKey, Sizes, BidAnswer, IslandAnswer, ListAnswer};
 
 pub mod sized;
 

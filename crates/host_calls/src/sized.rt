@@ -9,12 +9,12 @@ ghost use Rattle.core_laws.specs.Chaining.{handles_from};
 ghost use Rattle.table_meaning.specs.Does.{Called, Asks};
 ghost use Rattle.def_state.specs.Split.{split_island_now, schedule_split, run_pending_split};
 ghost use Rattle.host_calls.specs.Refusal.{refused_island, may_bid, refused_bid};
-ghost use Rattle.host_calls.specs.Keys.{key_is};
+ghost use Rattle.table_meaning.specs.Keys.{key_is};
 ghost use Rattle.core_laws.specs.Steps.{handle};
 ghost use Rattle.def_state.specs.Scan.{begin_sleep_scan, observe_body_for_sleep, mark_island_sleeping, wake_island};
 ghost use Rattle.core_finish.specs.Listing.{Finish};
 
-use def_kinds::{Answer, BidAnswer, Island, IslandAnswer, JointKey, ListAnswer, NONE, Sizes};
+use def_kinds::{Answer, Island, JointKey, NONE, Outcome, Refusal, Sizes, BidAnswer, IslandAnswer, ListAnswer};
 
 pub fn put(
     t: &mut [u32],
@@ -28,7 +28,7 @@ pub fn put(
     ensures { Called z (put_step z (handle s g) fixed enabled sleeping) t.old result t.new }
 {
     if !table_audit::sound(t, z) {
-        return Answer::BadTables;
+        return Err(Refusal::BadTables);
     }
     core_body::put_on(t, z, s, g, fixed, enabled, sleeping)
 }
@@ -45,7 +45,7 @@ pub fn flags(
     ensures { Called z (flags_step (handle s g) fixed enabled sleeping) t.old result t.new }
 {
     if !table_audit::sound(t, z) {
-        return Answer::BadTables;
+        return Err(Refusal::BadTables);
     }
     core_body::flags_on(t, z, s, g, fixed, enabled, sleeping)
 }
@@ -54,7 +54,7 @@ pub fn ensure(t: &mut [u32], z: Sizes, s: u32, g: u32) -> Answer
     ensures { Called z (ensure_step (handle s g)) t.old result t.new }
 {
     if !table_audit::sound(t, z) {
-        return Answer::BadTables;
+        return Err(Refusal::BadTables);
     }
     core_ensure::ensure_on(t, z, s, g)
 }
@@ -63,7 +63,7 @@ pub fn remove(t: &mut [u32], z: Sizes, s: u32, g: u32) -> Answer
     ensures { Called z (remove_step (handle s g)) t.old result t.new }
 {
     if !table_audit::sound(t, z) {
-        return Answer::BadTables;
+        return Err(Refusal::BadTables);
     }
     core_remove::remove_on(t, z, s, g)
 }
@@ -72,7 +72,7 @@ pub fn retire(t: &mut [u32], z: Sizes, s: u32, g: u32) -> Answer
     ensures { Called z (retire_step (handle s g)) t.old result t.new }
 {
     if !table_audit::sound(t, z) {
-        return Answer::BadTables;
+        return Err(Refusal::BadTables);
     }
     core_remove::retire_on(t, z, s, g)
 }
@@ -82,7 +82,7 @@ pub fn island(t: &[u32], z: Sizes, s: u32, g: u32) -> IslandAnswer
 {
     if !table_audit::sound(t, z) {
         return IslandAnswer {
-            answer: Answer::BadTables,
+            answer: Err(Refusal::BadTables),
             island: Island(NONE),
         };
     }
@@ -93,7 +93,7 @@ pub fn uncontact(t: &mut [u32], z: Sizes, e: u32) -> Answer
     ensures { Called z (unlink_contact z e) t.old result t.new }
 {
     if !table_audit::sound(t, z) {
-        return Answer::BadTables;
+        return Err(Refusal::BadTables);
     }
     core_contact::unlink_contact_on(t, z, e)
 }
@@ -102,7 +102,7 @@ pub fn resolve(t: &mut [u32], z: Sizes) -> Answer
     ensures { Called z resolve_removals t.old result t.new }
 {
     if !table_audit::sound(t, z) {
-        return Answer::BadTables;
+        return Err(Refusal::BadTables);
     }
     core_resolve::resolve_on(t, z)
 }
@@ -111,7 +111,7 @@ pub fn contact(t: &mut [u32], z: Sizes, e: u32, s1: u32, g1: u32, s2: u32, g2: u
     ensures { Called z (link_contact z e (handle s1 g1) (handle s2 g2)) t.old result t.new }
 {
     if !table_audit::sound(t, z) {
-        return Answer::BadTables;
+        return Err(Refusal::BadTables);
     }
     core_link::link_contact_on(t, z, e, s1, g1, s2, g2)
 }
@@ -120,7 +120,7 @@ pub fn renumber(t: &mut [u32], z: Sizes, removed: u32, last: u32) -> Answer
     ensures { Called z (contact_edge_removed removed last) t.old result t.new }
 {
     if !table_audit::sound(t, z) {
-        return Answer::BadTables;
+        return Err(Refusal::BadTables);
     }
     core_renumber::renumber_on(t, z, removed, last)
 }
@@ -142,7 +142,7 @@ pub fn joint(t: &mut [u32], z: Sizes, key: JointKey, s1: u32, g1: u32, s2: u32, 
     ensures { Called z (link_joint z (key_is key) (handle s1 g1) (handle s2 g2)) t.old result t.new }
 {
     if !table_audit::sound(t, z) {
-        return Answer::BadTables;
+        return Err(Refusal::BadTables);
     }
     match key {
         JointKey::Impulse { index, generation } => {
@@ -160,7 +160,7 @@ pub fn unjoint(t: &mut [u32], z: Sizes, key: JointKey) -> Answer
     ensures { Called z (unlink_joint z (key_is key)) t.old result t.new }
 {
     if !table_audit::sound(t, z) {
-        return Answer::BadTables;
+        return Err(Refusal::BadTables);
     }
     match key {
         JointKey::Impulse { index, generation } => {
@@ -179,11 +179,11 @@ pub fn chain(t: &mut [u32], z: Sizes, multibody: u64, list: &[u32]) -> Answer
     ensures { Called z (refresh_multibody_chain z (multibody / 4294967296) (multibody % 4294967296) (handles_from list.now 0 (length list.now / 2))) t.old result t.new }
 {
     if !table_audit::sound(t, z) {
-        return Answer::BadTables;
+        return Err(Refusal::BadTables);
     }
     let n = list.len() / 2;
     if n > (z.slots as usize) {
-        return Answer::JointsFull;
+        return Err(Refusal::JointsFull);
     }
     let high = high_half(multibody);
     let low = low_half(multibody);
@@ -196,7 +196,7 @@ pub fn begin(t: &mut [u32], z: Sizes) -> Answer
     ensures { Called z begin_sleep_scan t.old result t.new }
 {
     if !table_audit::sound(t, z) {
-        return Answer::BadTables;
+        return Err(Refusal::BadTables);
     }
     core_scan::begin_on(t, z)
 }
@@ -205,7 +205,7 @@ pub fn observe(t: &mut [u32], z: Sizes, i: u32, eligible: bool) -> Answer
     ensures { Called z (observe_body_for_sleep i eligible) t.old result t.new }
 {
     if !table_audit::sound(t, z) {
-        return Answer::BadTables;
+        return Err(Refusal::BadTables);
     }
     core_scan::observe_on(t, z, i, eligible)
 }
@@ -216,7 +216,7 @@ pub fn finish(t: &mut [u32], z: Sizes, out: &mut [u32]) -> ListAnswer
 {
     if !table_audit::sound(t, z) {
         return ListAnswer {
-            answer: Answer::BadTables,
+            answer: Err(Refusal::BadTables),
             length: 0,
         };
     }
@@ -227,7 +227,7 @@ pub fn sleep(t: &mut [u32], z: Sizes, i: u32) -> Answer
     ensures { Called z (mark_island_sleeping i) t.old result t.new }
 {
     if !table_audit::sound(t, z) {
-        return Answer::BadTables;
+        return Err(Refusal::BadTables);
     }
     core_sleep::sleep_on(t, z, i)
 }
@@ -236,7 +236,7 @@ pub fn wake(t: &mut [u32], z: Sizes, i: u32) -> Answer
     ensures { Called z (wake_island i) t.old result t.new }
 {
     if !table_audit::sound(t, z) {
-        return Answer::BadTables;
+        return Err(Refusal::BadTables);
     }
     core_sleep::wake_on(t, z, i)
 }
@@ -248,7 +248,7 @@ pub fn split(t: &mut [u32], z: Sizes, i: u32) -> Answer
     ensures { Called z (split_island_now i) t.old result t.new }
 {
     if !table_audit::sound(t, z) {
-        return Answer::BadTables;
+        return Err(Refusal::BadTables);
     }
     split_island::split_on(t, z, i)
 }
@@ -257,7 +257,7 @@ pub fn schedule(t: &mut [u32], z: Sizes, i: u32) -> Answer
     ensures { Called z (schedule_split i) t.old result t.new }
 {
     if !table_audit::sound(t, z) {
-        return Answer::BadTables;
+        return Err(Refusal::BadTables);
     }
     split_pending::schedule_on(t, z, i)
 }
@@ -267,7 +267,7 @@ pub fn run(t: &mut [u32], z: Sizes) -> Answer
     ensures { Called z run_pending_split t.old result t.new }
 {
     if !table_audit::sound(t, z) {
-        return Answer::BadTables;
+        return Err(Refusal::BadTables);
     }
     split_pending::run_on(t, z)
 }
@@ -277,13 +277,13 @@ pub fn may_bid(t: &[u32], z: Sizes, i: u32) -> BidAnswer
 {
     if !table_audit::sound(t, z) {
         return BidAnswer {
-            answer: Answer::BadTables,
+            answer: Err(Refusal::BadTables),
             yes: false,
         };
     }
     let b = split_pending::may_bid(t, z, i);
     BidAnswer {
-        answer: Answer::Done,
+        answer: Ok(Outcome::Done),
         yes: b,
     }
 }

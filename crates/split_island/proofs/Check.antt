@@ -13,7 +13,7 @@ use Rattle.def_kinds.specs.Choice.{pick}
 use Rattle.list_in_table.specs.Word.{writes, miss, hit}
 use Rattle.list_in_buffer.specs.Part.{Put}
 use Rattle.def_kinds.specs.declared.Sizes.{Sizes}
-use Rattle.def_kinds.specs.declared.Answer.TheVariants.{Done, Nothing, NoIsland}
+use Rattle.def_kinds.specs.Answers.{Done, Nothing, NoIsland}
 use Rattle.def_state.specs.Plain.{top}
 use Rattle.def_state.specs.World.{Island, World, Step, done, gives, island_at, live}
 use Rattle.def_state.specs.Fields.{split_set, island_set}

@@ -11,7 +11,7 @@ ghost use Rattle.core_laws.specs.Lives.{Lives};
 ghost use Rattle.split_island.specs.Assign.{AssignReady, Assigning};
 ghost use Rattle.split_island.specs.Part.{PartReady, Parts, checking, splitting, SplitReady, Splittable, Scratch};
 
-use def_kinds::{Answer, Sizes};
+use def_kinds::{Answer, Outcome, Refusal, Sizes};
 use table_meaning::{Table, word};
 
 // A denial stops here.
@@ -64,12 +64,7 @@ pub fn part_island(t: &mut [u32], z: Sizes, base: u32, keep: u32, labels: &[u32]
     requires { PartReady z base keep labels.now goals.old t.old }
     ensures { Parts z base t.old t.new }
 {
-    let asleep = table_words::get(
-        t,
-        z,
-        Table::Rows,
-        word::ROW * (base as usize) + word::ASLEEP,
-    );
+    let asleep = table_words::get(t, z, Table::Rows, word::ROW * (base as usize) + word::ASLEEP);
     assign_goals(t, z, base, keep, asleep, labels, goals);
     split_walk::contacts_leave(t, z, base, goals);
     split_walk::joints_leave(t, z, base, goals);
@@ -93,7 +88,7 @@ pub fn check_island(t: &mut [u32], z: Sizes, i: u32)
 {
     let stamp = table_words::get(t, z, Table::Head, word::STAMP);
     let until = denial(stamp);
-    table_words::set2(t, z, Table::Rows, word::ROW * (i as usize), 0, until);
+    table_words::set_all(t, z, Table::Rows, word::ROW * (i as usize), &[0, until]);
 }
 
 // split_island_now, of a live island, with a word of each slice for each of its bodies. When the labels are known, first holds the goals.
@@ -185,9 +180,9 @@ pub fn split_on(t: &mut [u32], z: Sizes, i: u32) -> Answer
     ensures { Does z (split_island_now i) t.old result t.new }
 {
     if !core_live::is_live(t, z, i) {
-        return Answer::NoIsland;
+        return Err(Refusal::NoIsland);
     }
-    let bodies = table_words::body_count(t, z, i) as usize;
+    let bodies = table_words::count(t, z, Table::Members, i) as usize;
     split_live(t, z, i, bodies);
-    Answer::Done
+    Ok(Outcome::Done)
 }

@@ -44,14 +44,14 @@ fn join_link(
     requires { Over z t.now i parent.old size.old × (from ≡ table_at z w) × (j + 4 ≤ table_span z w) }
     ensures { Goes (length parent.old) (at parent.old) (at parent.new) (at size.new) (pair_ends (world_of z t.now) i (pair_at (table_of w (tables z t.now)) j ∷ [])) (pick result 1 0) }
 {
-    let s1 = table_words::get_from(t, z, w, from, j);
-    let g1 = table_words::get_from(t, z, w, from, j + word::GENERATION1);
+    let s1 = table_words::get(t, z, w, j);
+    let g1 = table_words::get(t, z, w, j + word::GENERATION1);
     let a = node_of(t, z, i, s1, g1);
     if a == NONE {
         return false;
     }
-    let s2 = table_words::get_from(t, z, w, from, j + word::SLOT2);
-    let g2 = table_words::get_from(t, z, w, from, j + word::GENERATION2);
+    let s2 = table_words::get(t, z, w, j + word::SLOT2);
+    let g2 = table_words::get(t, z, w, j + word::GENERATION2);
     let b = node_of(t, z, i, s2, g2);
     if b == NONE {
         return false;
@@ -85,7 +85,7 @@ fn join_links(
         if join_link(t, z, w, from, at, i, parent, size) {
             joins += 1;
         }
-        link = table_words::get_from(t, z, k, chain, word::CELL * (link as usize) + word::PREV);
+        link = table_words::get(t, z, k, word::CELL * (link as usize) + word::PREV);
         left -= 1;
     }
     joins

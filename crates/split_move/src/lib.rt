@@ -16,22 +16,22 @@ pub fn node_at(t: &[u32], z: Sizes, i: u32, s: u32, g: u32) -> u32
     requires { (length t.now ≡ total z) × ((extents (tables z t.now)).slots ≤ z.slots) }
     ensures { (result ≡ node_at z (tables z t.now) i (handle s g)) × (result ≤ 4294967295) }
 {
-    let in_use = table_words::head_word(t, z, word::SLOTS_USED);
+    let in_use = table_words::get(t, z, Table::Head, word::SLOTS_USED);
     if s >= in_use {
         return NONE;
     }
     if g == NONE {
         return NONE;
     }
-    let live = table_words::slot_word(t, z, word::SLOT * (s as usize));
+    let live = table_words::get(t, z, Table::Slots, word::SLOT * (s as usize));
     if live != g {
         return NONE;
     }
-    let home = table_words::member_word(t, z, word::CELL * (s as usize));
+    let home = table_words::get(t, z, Table::Members, word::CELL * (s as usize));
     if home != i {
         return NONE;
     }
-    table_words::member_word(t, z, word::CELL * (s as usize) + word::PLACE)
+    table_words::get(t, z, Table::Members, word::CELL * (s as usize) + word::PLACE)
 }
 
 // The contact link e goes to the end of the list of the island to.
@@ -69,12 +69,6 @@ pub fn take_number(t: &mut [u32], z: Sizes, asleep: u32) -> u32
     core_ensure::make_ready(t, z);
     let i = table_words::last(t, z, Table::Freed, 0);
     table_words::remove(t, z, Table::Freed, i);
-    table_words::set(
-        t,
-        z,
-        Table::Rows,
-        word::ROW * (i as usize) + word::ASLEEP,
-        asleep,
-    );
+    table_words::set(t, z, Table::Rows, word::ROW * (i as usize) + word::ASLEEP, asleep);
     i
 }

@@ -7,7 +7,7 @@ ghost use Rattle.table_meaning.specs.Decode.{world_of};
 ghost use Rattle.table_meaning.specs.Sound.{Sound};
 ghost use Rattle.table_meaning.specs.Does.{Does};
 
-use def_kinds::{Answer, Sizes};
+use def_kinds::{Answer, Outcome, Sizes};
 use table_meaning::{Table, word};
 
 // schedule_split: any number; it overwrites.
@@ -15,8 +15,8 @@ pub fn schedule_on(t: &mut [u32], z: Sizes, i: u32) -> Answer
     requires { Sound z t.old }
     ensures { Does z (schedule_split i) t.old result t.new }
 {
-    table_words::set2(t, z, Table::Head, word::IS_PENDING, 1, i);
-    Answer::Done
+    table_words::set_all(t, z, Table::Head, word::IS_PENDING, &[1, i]);
+    Ok(Outcome::Done)
 }
 
 // run_pending_split: it is cleared; a live, awake island is split.
@@ -26,20 +26,20 @@ pub fn run_on(t: &mut [u32], z: Sizes) -> Answer
 {
     let is_pending = table_words::get(t, z, Table::Head, word::IS_PENDING);
     if is_pending != 1 {
-        return Answer::Nothing;
+        return Ok(Outcome::Nothing);
     }
     let i = table_words::get(t, z, Table::Head, word::PENDING);
-    table_words::set2(t, z, Table::Head, word::IS_PENDING, 0, 0);
+    table_words::set_all(t, z, Table::Head, word::IS_PENDING, &[0, 0]);
     if !core_live::is_live(t, z, i) {
-        return Answer::Nothing;
+        return Ok(Outcome::Nothing);
     }
     let asleep = table_words::get(t, z, Table::Rows, word::ROW * (i as usize) + word::ASLEEP);
     if asleep == 1 {
-        return Answer::Nothing;
+        return Ok(Outcome::Nothing);
     }
-    let bodies = table_words::body_count(t, z, i) as usize;
+    let bodies = table_words::count(t, z, Table::Members, i) as usize;
     split_island::split_live(t, z, i, bodies);
-    Answer::Done
+    Ok(Outcome::Done)
 }
 
 // split_allowed: a live island with a count, whose denial is over.
@@ -54,12 +54,7 @@ pub fn may_bid(t: &[u32], z: Sizes, i: u32) -> bool
     if removals == 0 {
         return false;
     }
-    let until = table_words::get(
-        t,
-        z,
-        Table::Rows,
-        word::ROW * (i as usize) + word::DENIED_UNTIL,
-    );
+    let until = table_words::get(t, z, Table::Rows, word::ROW * (i as usize) + word::DENIED_UNTIL);
     let stamp = table_words::get(t, z, Table::Head, word::STAMP);
     if stamp < until {
         return false;

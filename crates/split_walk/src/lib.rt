@@ -68,12 +68,7 @@ pub fn contacts_leave(t: &mut [u32], z: Sizes, base: u32, goals: &[u32])
     // One turn for each contact link of the island: at most as many as there are edges.
     while p > 0 {
         p -= 1;
-        let next = table_words::get(
-            t,
-            z,
-            Table::Contacts,
-            word::CELL * (e as usize) + word::PREV,
-        );
+        let next = table_words::get(t, z, Table::Contacts, word::CELL * (e as usize) + word::PREV);
         leave_contact(t, z, base, goals, e);
         e = next;
     }

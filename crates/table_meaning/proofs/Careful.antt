@@ -10,8 +10,7 @@ use lib.ListN.{length, get_or}
 use lib.Dec.{eqb, ltb, leb}
 use Rattle.def_kinds.specs.Choice.{pick}
 use Rattle.def_kinds.specs.declared.Sizes.{Sizes}
-use Rattle.def_kinds.specs.declared.Answer.{Answer}
-use Rattle.def_kinds.specs.declared.Answer.TheVariants.{Done, Nothing}
+use Rattle.def_kinds.specs.Answers.{Answer, Done, Nothing}
 use Rattle.def_kinds.specs.Number.{number}
 use Rattle.def_state.specs.Plain.{top, empty, place_of}
 use Rattle.def_state.specs.World.{Handle, Key, absent_contact, absent_joint, World, Step, done, gives, body_of, named, island_at, island_of, live}

@@ -17,7 +17,7 @@ use Rattle.list_in_table.proofs.Same.{below, rows2, rows4, same-elem, same_count
 use Rattle.list_in_buffer.specs.Part.{part}
 use Rattle.list_in_buffer.proofs.Laws.{part-get}
 use Rattle.def_kinds.specs.declared.Sizes.{Sizes}
-use Rattle.def_kinds.specs.declared.Answer.{Answer}
+use Rattle.def_kinds.specs.Answers.{Answer}
 use Rattle.def_state.specs.World.{Handle, Body, absent_body, impulse, chain, ContactLink, JointLink, Island, absent_island, Removal, Observed, World, Step}
 use Rattle.table_meaning.specs.Layout.{Tables, tables, total, Extents, extents, contacts_in, joints_in, scan_in, head_at, head_span, slots_at, slots_span, members_at, members_span, rows_at, rows_span, freed_at, freed_span, contacts_at, contacts_span, touches_at, touches_span, joints_at, joints_span, keys_at, keys_span, spare_at, spare_span, journal_at, journal_span, scan_at, scan_span, fit_at, fit_span}
 use Rattle.table_meaning.specs.Decode.{flag, handle_at, body_at, contact_at, key_of, joint_at, removal_at, observed_at, island_in, pending, decode, world_of}

@@ -1,8 +1,7 @@
 -- What a call does with a buffer of any contents.
 use Rattle.std.specs.Prelude.{◌≡◌, ◌⊎◌, ◌≢◌, List, ℕ, ◌+◌, ◌*◌, ◌≤◌, ◌<◌, length, get_or}
 use Rattle.def_kinds.specs.declared.Sizes.{Sizes}
-use Rattle.def_kinds.specs.declared.Answer.{Answer}
-use Rattle.def_kinds.specs.declared.Answer.TheVariants.{Done, BadTables}
+use Rattle.def_kinds.specs.Answers.{Answer, Done, BadTables}
 use Rattle.def_state.specs.World.{World, empty_world, Step}
 use Rattle.table_meaning.specs.Layout.{Tables, tables, total, Extents, extents}
 use Rattle.table_meaning.specs.Decode.{world_of}

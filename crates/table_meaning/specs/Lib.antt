@@ -6,3 +6,4 @@ pub mod Sound
 pub mod Does
 pub mod Larger
 pub mod Proper
+pub mod Keys

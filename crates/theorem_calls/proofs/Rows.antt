@@ -6,7 +6,7 @@ use mathlib.Core.List.{List}
 use Prim.Native.Nat.{ℕ}
 use lib.ListN.{length}
 use Rattle.def_kinds.specs.declared.Sizes.{Sizes}
-use Rattle.def_kinds.specs.declared.Answer.{Answer}
+use Rattle.def_kinds.specs.Answers.{Answer}
 use Rattle.def_kinds.specs.Number.{rig}
 use Rattle.def_state.specs.World.{Handle, Key, World, Step}
 use Rattle.def_state.specs.Bodies.{put, flags, retire}

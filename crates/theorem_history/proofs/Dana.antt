@@ -9,8 +9,7 @@ use native.Mathlib.Nat.{le_trans, le_refl}
 use native.Mathlib.Omega.{arith}
 use borrow.Author.Tests.{ne_eqb, le-ltb}
 use Rattle.def_kinds.specs.declared.Sizes.{Sizes}
-use Rattle.def_kinds.specs.declared.Answer.{Answer}
-use Rattle.def_kinds.specs.declared.Answer.TheVariants.{Done}
+use Rattle.def_kinds.specs.Answers.{Answer, Done}
 use Rattle.def_state.specs.Plain.{top}
 use Rattle.def_state.specs.World.{World, Step, done, island_at, live}
 use Rattle.def_state.specs.Fields.{split_set}

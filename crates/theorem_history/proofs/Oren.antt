@@ -9,7 +9,7 @@ use lib.Dec.{eqb, ltb}
 use borrow.Author.Tests.{eqb-true, eqb-false}
 use Rattle.def_kinds.specs.Choice.{pick}
 use Rattle.def_kinds.specs.declared.Sizes.{Sizes}
-use Rattle.def_kinds.specs.declared.Answer.{Answer}
+use Rattle.def_kinds.specs.Answers.{Answer}
 use Rattle.def_state.specs.World.{Handle, Observed, World, body_island}
 use Rattle.def_state.specs.Scan.{observed, sleepable, sleepables, Listing, finish_sleep_scan}
 use Rattle.def_state.specs.Calls.{Call, Observe, perform}

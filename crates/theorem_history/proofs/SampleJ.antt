@@ -6,7 +6,7 @@ use mathlib.Core.List.{List, [], ◌∷◌}
 use Prim.Native.Nat.{ℕ}
 use native.Mathlib.Omega.{arith}
 use Rattle.def_kinds.specs.Number.{rig}
-use Rattle.def_kinds.specs.declared.Answer.{Answer}
+use Rattle.def_kinds.specs.Answers.{Answer}
 use Rattle.def_state.specs.Plain.{top, has, place_of}
 use Rattle.def_state.specs.World.{Handle, World, empty_world, named, island_below, island_of, body_island, live}
 use Rattle.def_state.specs.Fields.{island_set}

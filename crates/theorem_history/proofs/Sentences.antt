@@ -10,8 +10,7 @@ use Rattle.list_in_table.proofs.Laws.{either}
 use lib.Dec.{eqb}
 use Rattle.def_kinds.specs.Number.{number}
 use Rattle.def_kinds.specs.declared.Sizes.{Sizes}
-use Rattle.def_kinds.specs.declared.Answer.{Answer}
-use Rattle.def_kinds.specs.declared.Answer.TheVariants.{Done, BadTables}
+use Rattle.def_kinds.specs.Answers.{Answer, Done, BadTables}
 use Rattle.def_state.specs.Plain.{top}
 use Rattle.def_state.specs.World.{Handle, Key, World, empty_world, Step, body_island, live}
 use Rattle.def_state.specs.Split.{split, split_island_now}

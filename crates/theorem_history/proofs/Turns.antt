@@ -13,7 +13,7 @@ use Rattle.def_kinds.specs.Choice.{pick}
 use Rattle.list_in_table.proofs.Laws.{either}
 use Rattle.def_kinds.specs.Number.{number}
 use Rattle.def_kinds.specs.declared.Sizes.{Sizes}
-use Rattle.def_kinds.specs.declared.Answer.TheVariants.{Done}
+use Rattle.def_kinds.specs.Answers.{Done}
 use Rattle.def_state.specs.Plain.{top}
 use Rattle.def_state.specs.World.{Observed, World, Step, island_at, live}
 use Rattle.def_state.specs.Fields.{split_set, scan_set}

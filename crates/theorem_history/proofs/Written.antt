@@ -5,7 +5,7 @@ use mathlib.Core.List.{List, ◌++◌}
 use Prim.Native.Nat.{ℕ, ◌<◌}
 use lib.ListN.{length, get_or, drop, get_or-append}
 use Rattle.def_kinds.specs.declared.Sizes.{Sizes}
-use Rattle.def_kinds.specs.declared.Answer.{Answer}
+use Rattle.def_kinds.specs.Answers.{Answer}
 use Rattle.table_meaning.specs.Decode.{world_of}
 use Rattle.theorem_split.specs.Graph.{In}
 use Rattle.theorem_split.proofs.Member.{in-at}

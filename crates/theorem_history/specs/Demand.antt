@@ -2,8 +2,7 @@
 use Rattle.std.specs.Prelude.{◌≡◌, ◌≢◌, ◌↔◌, true, List, ℕ}
 use Rattle.std.proofs.Math.Option.{some}
 use Rattle.def_kinds.specs.declared.Sizes.{Sizes}
-use Rattle.def_kinds.specs.declared.Answer.{Answer}
-use Rattle.def_kinds.specs.declared.Answer.TheVariants.{Done}
+use Rattle.def_kinds.specs.Answers.{Answer, Done}
 use Rattle.def_state.specs.Plain.{top}
 use Rattle.def_state.specs.World.{Handle, Removal, World, island_at, body_island, live}
 use Rattle.def_state.specs.Calls.{Split, Run, perform}

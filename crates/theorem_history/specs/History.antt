@@ -1,8 +1,7 @@
 -- A history: from a reset, any calls in any order, refused ones too. Nothing else writes to the tables.
 use Rattle.std.specs.Prelude.{List, [], ◌∷◌, ℕ}
 use Rattle.def_kinds.specs.declared.Sizes.{Sizes}
-use Rattle.def_kinds.specs.declared.Answer.{Answer}
-use Rattle.def_kinds.specs.declared.Answer.TheVariants.{Done}
+use Rattle.def_kinds.specs.Answers.{Answer, Done}
 use Rattle.def_state.specs.Calls.{Call, Split, perform}
 use Rattle.table_meaning.specs.Does.{Reset, Called}
 

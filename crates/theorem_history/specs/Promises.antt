@@ -4,8 +4,7 @@ use Rattle.std.specs.Prelude.{◌≡◌, ◌⊎◌, ◌≢◌, true, false, List
 use Rattle.std.proofs.Math.Option.{some}
 use Rattle.def_kinds.specs.Choice.{pick}
 use Rattle.def_kinds.specs.declared.Sizes.{Sizes}
-use Rattle.def_kinds.specs.declared.Answer.{Answer}
-use Rattle.def_kinds.specs.declared.Answer.TheVariants.{Done}
+use Rattle.def_kinds.specs.Answers.{Answer, Done}
 use Rattle.def_state.specs.World.{Handle, World, island_at, body_island, live}
 use Rattle.def_state.specs.Split.{split_island_now, run_pending_split, split_allowed}
 use Rattle.def_state.specs.Scan.{finish_sleep_scan}

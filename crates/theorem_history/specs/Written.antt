@@ -1,7 +1,7 @@
 -- Oren's promise, of what the host finds in the output that it lent to finish. Proved in proofs/Written.antt.
 use Rattle.std.specs.Prelude.{◌≢◌, List, ℕ, ◌<◌, get_or}
 use Rattle.def_kinds.specs.declared.Sizes.{Sizes}
-use Rattle.def_kinds.specs.declared.Answer.{Answer}
+use Rattle.def_kinds.specs.Answers.{Answer}
 use Rattle.def_state.specs.World.{Handle, body_island}
 use Rattle.table_meaning.specs.Decode.{world_of}
 use Rattle.core_finish.specs.Listing.{Finish}

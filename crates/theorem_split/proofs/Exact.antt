@@ -10,8 +10,7 @@ use lib.ListN.{length}
 use borrow.Author.Tests.{le-leb}
 use Rattle.list_in_table.proofs.Laws.{either}
 use Rattle.def_kinds.specs.declared.Sizes.{Sizes}
-use Rattle.def_kinds.specs.declared.Answer.{Answer}
-use Rattle.def_kinds.specs.declared.Answer.TheVariants.{Done, Nothing, NoIsland, BadTables}
+use Rattle.def_kinds.specs.Answers.{Answer, Done, Nothing, NoIsland, BadTables}
 use Rattle.def_state.specs.Plain.{top}
 use Rattle.def_state.specs.World.{Handle, Island, World, Step, island_at, named, island_of, body_island, live}
 use Rattle.def_state.specs.Fields.{split_set}

@@ -5,7 +5,7 @@ use Rattle.core_laws.specs.Steps.{handle}
 use Rattle.core_laws.proofs.Then.{refused}
 use Rattle.core_laws.proofs.Names.{named_is}
 use Rattle.core_laws.proofs.Put.{flags-no, flags-yes}
-use Rattle.def_kinds.specs.declared.Answer.TheVariants.{Nothing}
+use Rattle.def_kinds.specs.Answers.{Nothing}
 use Rattle.core_body.proofs.flags_on.Goals as goal
 
 pub returns-then-not-is_named : goal.returns-then-not-is_named

@@ -6,7 +6,7 @@ use Rattle.table_meaning.specs.Layout.{tables, extents}
 use Rattle.core_laws.proofs.Then.{refused}
 use Rattle.core_laws.proofs.Put.{body-none, generation-word, lowest-word, put-far, put-taken, put_low, put-absent, put-fits, put-old, put-new}
 use Rattle.def_state.specs.World.{Body}
-use Rattle.def_kinds.specs.declared.Answer.TheVariants.{OverSize, SlotTaken, BadGeneration}
+use Rattle.def_kinds.specs.Answers.{OverSize, SlotTaken, BadGeneration}
 use Rattle.core_body.proofs.put_on.Goals as goal
 
 pub returns-then-s-z : goal.returns-then-s-z

@@ -4,7 +4,7 @@ use Rattle.core_laws.proofs.GrowPlace.{place-push_ready, place-grown}
 use Rattle.core_joint.proofs.grow_place.Goals as goal
 
 pub push-requires : goal.push-requires
-push-requires c = (c.set4-4.ensures.same_length ∙ c.set4-3.ensures.same_length ∙ c.set4-2.ensures.same_length ∙ c.set4.ensures.same_length ∙ c.requires.0.long, place-push_ready c.args.p c.requires.0 c.requires.1 c.requires.2 c.requires.3 c.set4.ensures c.set4-2.ensures c.set4-3.ensures c.set4-4.ensures)
+push-requires c = (c.set_all-4.ensures.same_length ∙ c.set_all-3.ensures.same_length ∙ c.set_all-2.ensures.same_length ∙ c.set_all.ensures.same_length ∙ c.requires.0.long, place-push_ready c.args.p c.requires.0 c.requires.1 c.requires.2 c.requires.3 c.set_all.ensures c.set_all-2.ensures c.set_all-3.ensures c.set_all-4.ensures)
 
 pub returns : goal.returns
-returns c = place-grown c.args.p c.requires.0 c.requires.1 c.requires.2 c.requires.3 c.set4.ensures c.set4-2.ensures c.set4-3.ensures c.set4-4.ensures c.push.ensures c.set.ensures
+returns c = place-grown c.args.p c.requires.0 c.requires.1 c.requires.2 c.requires.3 c.set_all.ensures c.set_all-2.ensures c.set_all-3.ensures c.set_all-4.ensures c.push.ensures c.set.ensures

@@ -10,11 +10,11 @@ remove-requires c = (c.requires.0.long, (spare-last c.last-p.result c.requires.0
 pub push-requires : goal.push-requires
 push-requires c = (c.remove.ensures.same_length ∙ c.requires.0.long, push-joint-ready c.last-p.result c.requires.0 c.requires.1 c.last-p.ensures.0 c.args.i c.requires.2 c.remove.ensures)
 
-pub set4-requires : goal.set4-requires
-set4-requires c = (c.push.ensures.same_length ∙ c.remove.ensures.same_length ∙ c.requires.0.long, (let h = (spare-last c.last-p.result c.requires.0 c.requires.1 c.last-p.ensures.0).room_lt in omega arith))
+pub set_all-requires : goal.set_all-requires
+set_all-requires c = (c.push.ensures.same_length ∙ c.remove.ensures.same_length ∙ c.requires.0.long, (let h = (spare-last c.last-p.result c.requires.0 c.requires.1 c.last-p.ensures.0).room_lt in omega arith))
 
-pub set4-requires-2 : goal.set4-requires-2
-set4-requires-2 c = (c.set4.ensures.same_length ∙ c.push.ensures.same_length ∙ c.remove.ensures.same_length ∙ c.requires.0.long, (let h = (spare-last c.last-p.result c.requires.0 c.requires.1 c.last-p.ensures.0).room_lt in omega arith))
+pub set_all-requires-2 : goal.set_all-requires-2
+set_all-requires-2 c = (c.set_all.ensures.same_length ∙ c.push.ensures.same_length ∙ c.remove.ensures.same_length ∙ c.requires.0.long, (let h = (spare-last c.last-p.result c.requires.0 c.requires.1 c.last-p.ensures.0).room_lt in omega arith))
 
 pub returns : goal.returns
-returns c = joint-is-pushed c.last-p.result c.requires.0 c.requires.1 c.last-p.ensures.0 c.args.i c.args.kind c.args.a c.args.b c.args.c c.args.s1 c.args.g1 c.args.s2 c.args.g2 c.requires.2 c.requires.3 c.requires.4 c.requires.5 c.remove.ensures c.push.ensures c.set4.ensures c.set4-2.ensures
+returns c = joint-is-pushed c.last-p.result c.requires.0 c.requires.1 c.last-p.ensures.0 c.args.i c.args.kind c.args.a c.args.b c.args.c c.args.s1 c.args.g1 c.args.s2 c.args.g2 c.requires.2 c.requires.3 c.requires.4 c.requires.5 c.remove.ensures c.push.ensures c.set_all.ensures c.set_all-2.ensures

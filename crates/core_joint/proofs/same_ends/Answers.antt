@@ -3,11 +3,11 @@ use mathlib.Core.Path.{sym, ◌∙◌}
 use Rattle.core_laws.proofs.UnlinkJoint.{ends_same, ends-slot, ends-generation}
 use Rattle.core_joint.proofs.same_ends.Goals as goal
 
-pub returns-then-key_word : goal.returns-then-key_word
-returns-then-key_word c = sym (ends-slot _ _ _ _ (λ e. c.if-key_word.true (c.key_word.ensures.0 ∙ e ∙ sym c.key_word-2.ensures.0)))
+pub returns-then-get : goal.returns-then-get
+returns-then-get c = sym (ends-slot _ _ _ _ (λ e. c.if-get.true (c.get.ensures.0 ∙ e ∙ sym c.get-2.ensures.0)))
 
-pub returns-then-key_word-2 : goal.returns-then-key_word-2
-returns-then-key_word-2 c = sym (ends-generation (sym c.key_word.ensures.0 ∙ c.if-key_word.false ∙ c.key_word-2.ensures.0) (λ e. c.if-key_word-2.true (c.key_word-3.ensures.0 ∙ e ∙ sym c.key_word-4.ensures.0)))
+pub returns-then-get-2 : goal.returns-then-get-2
+returns-then-get-2 c = sym (ends-generation (sym c.get.ensures.0 ∙ c.if-get.false ∙ c.get-2.ensures.0) (λ e. c.if-get-2.true (c.get-3.ensures.0 ∙ e ∙ sym c.get-4.ensures.0)))
 
 pub returns : goal.returns
-returns c = sym (ends_same (sym c.key_word.ensures.0 ∙ c.if-key_word.false ∙ c.key_word-2.ensures.0) (sym c.key_word-3.ensures.0 ∙ c.if-key_word-2.false ∙ c.key_word-4.ensures.0))
+returns c = sym (ends_same (sym c.get.ensures.0 ∙ c.if-get.false ∙ c.get-2.ensures.0) (sym c.get-3.ensures.0 ∙ c.if-get-2.false ∙ c.get-4.ensures.0))

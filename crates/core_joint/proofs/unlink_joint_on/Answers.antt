@@ -18,7 +18,7 @@ pub returns-then-same_ends : goal.returns-then-same_ends
 returns-then-same_ends c = unlinks-self c.args.kind c.args.a c.args.b c.args.c c.requires.0 c.requires.1 c.find_place-p.result (found_at c.requires.0 c.find_place-p.ensures c.if-p.false) (sym c.same_ends.ensures ∙ c.if-same_ends.true) (c.take_joint.ensures.taken c.requires.0)
 
 pub returns-then-entries-z : goal.returns-then-entries-z
-returns-then-entries-z c = unlinks-full c.args.kind c.args.a c.args.b c.args.c c.requires.0 c.requires.1 c.find_place-p.result (found_at c.requires.0 c.find_place-p.ensures c.if-p.false) (sym c.same_ends.ensures ∙ c.if-same_ends.false) (omega (arith, c.head_word-entries.ensures.0, c.if-entries-z.true))
+returns-then-entries-z c = unlinks-full c.args.kind c.args.a c.args.b c.args.c c.requires.0 c.requires.1 c.find_place-p.result (found_at c.requires.0 c.find_place-p.ensures c.if-p.false) (sym c.same_ends.ensures ∙ c.if-same_ends.false) (omega (arith, c.get-entries.ensures.0, c.if-entries-z.true))
 
 pub take_joint-requires-2 : goal.take_joint-requires-2
 take_joint-requires-2 c =
@@ -26,4 +26,4 @@ take_joint-requires-2 c =
     (sound-loose c.requires.0, A.place_lt, A.keyed.linked)
 
 pub returns : goal.returns
-returns c = unlinks-some c.args.kind c.args.a c.args.b c.args.c c.requires.0 c.requires.1 c.find_place-p.result (found_at c.requires.0 c.find_place-p.ensures c.if-p.false) c.key_word-s1.result c.key_word-g1.result c.key_word-s2.result c.key_word-g2.result c.key_word-s1.ensures.0 c.key_word-g1.ensures.0 c.key_word-s2.ensures.0 c.key_word-g2.ensures.0 (sym c.same_ends.ensures ∙ c.if-same_ends.false) (omega (arith, c.head_word-entries.ensures.0, c.if-entries-z.false)) (c.take_joint-2.ensures.taken c.requires.0) c.push_entry.ensures
+returns c = unlinks-some c.args.kind c.args.a c.args.b c.args.c c.requires.0 c.requires.1 c.find_place-p.result (found_at c.requires.0 c.find_place-p.ensures c.if-p.false) c.get-s1.result c.get-g1.result c.get-s2.result c.get-g2.result c.get-s1.ensures.0 c.get-g1.ensures.0 c.get-s2.ensures.0 c.get-g2.ensures.0 (sym c.same_ends.ensures ∙ c.if-same_ends.false) (omega (arith, c.get-entries.ensures.0, c.if-entries-z.false)) (c.take_joint-2.ensures.taken c.requires.0) c.push_entry.ensures

@@ -5,7 +5,7 @@ use Prim.Native.Nat.{ℕ, ◌<◌}
 use Rattle.list_in_table.specs.Rules.{none}
 use Rattle.table_meaning.specs.Decode.{world_of}
 use Rattle.table_meaning.specs.Layout.{Extents}
-use Rattle.def_kinds.specs.declared.Answer.TheVariants.{OverSize}
+use Rattle.def_kinds.specs.Answers.{OverSize}
 use Rattle.core_laws.specs.Steps.{handle}
 use Rattle.core_laws.proofs.Then.{refused}
 use Rattle.core_laws.proofs.Unlink.{island-lives}

@@ -4,7 +4,7 @@ use mathlib.Core.Logic.{◌≢◌}
 use Rattle.list_in_table.specs.Rules.{none}
 use Rattle.def_state.specs.Links.{joint_room, merge_islands}
 use Rattle.table_meaning.specs.Decode.{key_of, world_of}
-use Rattle.def_kinds.specs.declared.Answer.TheVariants.{Nothing, JointsFull}
+use Rattle.def_kinds.specs.Answers.{Nothing, JointsFull}
 use Rattle.core_laws.specs.Steps.{handle}
 use Rattle.core_laws.proofs.Then.{refused}
 use Rattle.core_laws.proofs.Unlink.{island-lives}

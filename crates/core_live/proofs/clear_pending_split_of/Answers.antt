@@ -10,4 +10,4 @@ pub returns-then-island-i : goal.returns-then-island-i
 returns-then-island-i c = not-pending c.args.i c.requires (λ p q. let e = c.get-island.ensures.0 in let d = c.if-island-i.true in omega arith)
 
 pub returns : goal.returns
-returns c = unpended c.args.i c.requires (sym c.get-pending.ensures.0 ∙ c.if-pending-ne1.false) (sym c.get-island.ensures.0 ∙ c.if-island-i.false) c.set2.ensures
+returns c = unpended c.args.i c.requires (sym c.get-pending.ensures.0 ∙ c.if-pending-ne1.false) (sym c.get-island.ensures.0 ∙ c.if-island-i.false) c.set_all.ensures

@@ -8,4 +8,4 @@ returns c =
     (rw (c.get-big_asleep.ensures.0, c.get-small_asleep.ensures.0) at c.both_asleep-asleep.ensures)
     c.set.ensures
     c.set-2.ensures
-    c.set3.ensures
+    c.set_all.ensures

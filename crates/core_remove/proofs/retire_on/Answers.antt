@@ -1,6 +1,6 @@
 use native.Mathlib.Omega.{arith}
 use mathlib.Core.Path.{sym, ◌∙◌}
-use Rattle.def_kinds.specs.declared.Answer.TheVariants.{Nothing}
+use Rattle.def_kinds.specs.Answers.{Nothing}
 use Rattle.def_state.specs.Bodies.{retire}
 use Rattle.table_meaning.specs.Decode.{world_of}
 use Rattle.core_laws.specs.Steps.{handle}

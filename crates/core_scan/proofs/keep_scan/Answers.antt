@@ -3,5 +3,5 @@ use Rattle.core_scan.proofs.keep_scan.Goals as goal
 
 pub returns : goal.returns
 returns c =
-    let P = rw c.bit-word.ensures at c.set2.ensures in
+    let P = rw c.bit-word.ensures at c.set_all.ensures in
     scan_kept c.args.scan c.requires P

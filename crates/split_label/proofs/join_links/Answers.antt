@@ -16,12 +16,12 @@ overflow_add-at c = let m = word_fits c.args.z c.args.t.now c.args.w _ c.require
 pub join_link-requires : goal.join_link-requires
 join_link-requires c = (passed_over c.requires.1 c.loop-left.invariant c.requires.0, c.table_at-from.ensures, pair-in c.requires.1 c.loop-left.invariant c.loop-left-test.true)
 
-pub get_from-link-requires : goal.get_from-link-requires
-get_from-link-requires c = (c.requires.0.sound.long, c.table_at-chain.ensures, prev-in c.requires.1 c.loop-left.invariant c.loop-left-test.true)
+pub get-link-requires : goal.get-link-requires
+get-link-requires c = (c.requires.0.sound.long, c.table_at-chain.ensures, prev-in c.requires.1 c.loop-left.invariant c.loop-left-test.true)
 
 pub loop-left-preserved : goal.loop-left-preserved
 loop-left-preserved c =
-    passed-more c.requires.1 c.loop-left.invariant c.loop-left-test.true c.join_link.result c.join_link.ensures c.join_link.auto.parent c.join_link.auto.size c.get_from-link.ensures.0 (elim c.if-join_link.branch [
+    passed-more c.requires.1 c.loop-left.invariant c.loop-left-test.true c.join_link.result c.join_link.ensures c.join_link.auto.parent c.join_link.auto.size c.get-link.ensures.0 (elim c.if-join_link.branch [
       | then-join_link w ↦ one_more c.loop-left.joins w.if-join_link.true w.joins-is
       | else-join_link w ↦ no_more c.loop-left.joins w.if-join_link.false w.joins-is
     ])

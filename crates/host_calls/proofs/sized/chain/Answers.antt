@@ -2,7 +2,7 @@ use Rattle.host_calls.proofs.Laws.{sound-is, call-no, call-yes}
 use native.Mathlib.Omega.{arith}
 use Prim.Native.Nat.{◌/◌, ◌%◌}
 use lib.ListN.{length}
-use Rattle.def_kinds.specs.declared.Answer.TheVariants.{JointsFull}
+use Rattle.def_kinds.specs.Answers.{JointsFull}
 use Rattle.table_meaning.specs.Decode.{world_of}
 use Rattle.core_laws.specs.Chaining.{handles_from}
 use Rattle.core_laws.proofs.Then.{refused}

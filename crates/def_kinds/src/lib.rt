@@ -38,6 +38,14 @@ impl Handle {
     }
 }
 
+// What a body is besides: fixed, enabled, sleeping.
+#[derive(Clone, Copy, Debug, PartialEq, Eq)]
+pub struct Flags {
+    pub fixed: bool,
+    pub enabled: bool,
+    pub sleeping: bool,
+}
+
 // What a joint link is known by (JointLinkKey).
 #[derive(Clone, Copy, Debug, PartialEq, Eq)]
 pub enum JointKey {

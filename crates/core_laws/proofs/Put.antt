@@ -8,6 +8,7 @@ use native.Mathlib.Omega.{arith}
 use lib.Dec.{eqb, ltb, leb}
 use borrow.Author.Tests.{eq-eqb, ne_eqb, le-leb, lt-leb, lt-ltb, le-ltb}
 use lib.ListN.{length, get_or, set}
+use Rattle.std.specs.Int.{from_bool}
 use Rattle.list_in_table.specs.Rules.{none}
 use Rattle.def_kinds.specs.Choice.{pick}
 use Rattle.def_kinds.specs.declared.Sizes.{Sizes}
@@ -35,6 +36,11 @@ bit_le false = omega arith
 pub bit_is : (b : Bool) → flag (bit_of b) ≡ b
 bit_is true = refl
 bit_is false = refl
+
+-- a flag as a number is its word
+pub bit-from : (b : Bool) → from_bool b ≡ bit_of b
+bit-from true = refl
+bit-from false = refl
 
 -- the body with these flags
 pub body-with : (g l : ℕ) (f e z : Bool) → body_with g l (bit_of f) (bit_of e) (bit_of z) ≡ record { generation = g; lowest = l; fixed = f; enabled = e; sleeping = z }

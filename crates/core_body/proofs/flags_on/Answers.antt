@@ -9,17 +9,17 @@ use Rattle.def_kinds.specs.Answers.{Nothing}
 use Rattle.core_body.proofs.flags_on.Goals as goal
 
 pub returns-then-not-is_named : goal.returns-then-not-is_named
-returns-then-not-is_named c = refused _ Nothing c.requires (flags-no (handle c.args.s c.args.g) c.args.fixed c.args.enabled c.args.sleeping (world_of c.args.z c.args.t.now) (sym c.is_named.ensures ∙ c.if-not-is_named.true))
+returns-then-not-is_named c = refused _ Nothing c.requires (flags-no (handle c.args.h.slot.0 c.args.h.generation) c.args.flags.fixed c.args.flags.enabled c.args.flags.sleeping (world_of c.args.z c.args.t.now) (sym c.is_named.ensures ∙ c.if-not-is_named.true))
 
 pub get-lowest-requires : goal.get-lowest-requires
-get-lowest-requires c = (c.requires.long, (let n = (named_is c.args.z c.args.t.now c.args.s c.args.g (sym c.is_named.ensures ∙ c.if-not-is_named.false)).slot_lt in let m = c.requires.good.slots_le in omega arith))
+get-lowest-requires c = (c.requires.long, (let n = (named_is c.args.z c.args.t.now c.args.h.slot.0 c.args.h.generation (sym c.is_named.ensures ∙ c.if-not-is_named.false)).slot_lt in let m = c.requires.good.slots_le in omega arith))
 
 pub fill-requires : goal.fill-requires
 fill-requires c =
-    let n = named_is c.args.z c.args.t.now c.args.s c.args.g (sym c.is_named.ensures ∙ c.if-not-is_named.false) in
+    let n = named_is c.args.z c.args.t.now c.args.h.slot.0 c.args.h.generation (sym c.is_named.ensures ∙ c.if-not-is_named.false) in
     (c.requires, n.slot_lt, (let d = n.not_absent in omega arith))
 
 pub returns : goal.returns
 returns c =
     let F = rw c.get-lowest.ensures.0 at c.fill.ensures in
-    flags-yes c.args.s c.args.g c.args.fixed c.args.enabled c.args.sleeping (sym c.is_named.ensures ∙ c.if-not-is_named.false) (named_is c.args.z c.args.t.now c.args.s c.args.g (sym c.is_named.ensures ∙ c.if-not-is_named.false)).slot_lt F
+    flags-yes c.args.h.slot.0 c.args.h.generation c.args.flags.fixed c.args.flags.enabled c.args.flags.sleeping (sym c.is_named.ensures ∙ c.if-not-is_named.false) (named_is c.args.z c.args.t.now c.args.h.slot.0 c.args.h.generation (sym c.is_named.ensures ∙ c.if-not-is_named.false)).slot_lt F

@@ -1,10 +1,10 @@
 // Contact links on sound tables: the tracked length, one link comes or goes, the journal, contact unlink; and the island of a handle.
 #![tactic(auto)]
 
-ghost use Rattle.std.specs.Prelude.{◌≡◌, ◌≢◌, ℕ, ◌+◌, ◌*◌, ◌<◌, ◌≤◌};
+ghost use Rattle.std.specs.Prelude.{◌≡◌, ◌≢◌, ℕ, ◌+◌, ◌*◌, ◌<◌, ◌≤◌, MatchOption};
 ghost use Rattle.list_in_table.specs.Rules.{none};
 ghost use Rattle.def_state.specs.World.{body_island};
-ghost use Rattle.def_state.specs.Links.{same_handle, unlink_contact};
+ghost use Rattle.def_state.specs.Links.{unlink_contact};
 ghost use Rattle.table_meaning.specs.Layout.{tables, extents, contacts_in};
 ghost use Rattle.table_meaning.specs.Decode.{world_of};
 ghost use Rattle.table_meaning.specs.Sound.{Sound};
@@ -14,18 +14,19 @@ ghost use Rattle.core_laws.specs.Linking.{tracking, contact_of, contact_push, jo
 ghost use Rattle.core_laws.specs.Loose.{Loosely, ContactGone};
 ghost use Rattle.core_laws.specs.Lives.{Lives};
 
-use def_kinds::{Answer, NONE, Outcome, Refusal, Sizes};
+use def_kinds::{Answer, Handle, NONE, Outcome, Refusal, Sizes};
 use table_meaning::{Table, word};
 
-// The island of the body that the handle names: NONE where it names none, or one in no island.
-pub fn body_island(t: &[u32], z: Sizes, s: u32, g: u32) -> u32
+// The island of the body that the handle names, where it names one that is in an island.
+pub fn body_island(t: &[u32], z: Sizes, h: Handle) -> Option<u32>
     requires { Sound z t.now }
-    ensures { result ≡ body_island (world_of z t.now) (handle s g) }
+    ensures { MatchOption result (body_island (world_of z t.now) (handle h.slot.0 h.generation) ≡ none) (λ i. (i ≡ body_island (world_of z t.now) (handle h.slot.0 h.generation)) × (i ≢ none)) }
 {
-    if !core_body::is_named(t, z, s, g) {
-        return NONE;
+    if !core_body::is_named(t, z, h) {
+        return None;
     }
-    table_words::home(t, z, Table::Members, s)
+    let i = table_words::home(t, z, Table::Members, h.slot.0);
+    if i == NONE { None } else { Some(i) }
 }
 
 // The edge e, the first that is not tracked, comes into use, not linked.
@@ -33,8 +34,20 @@ pub fn grow_edge(t: &mut [u32], z: Sizes, e: u32)
     requires { Sound z t.old × (e ≡ (extents (tables z t.old)).edges) × (e < z.edges) × (e < none) }
     ensures { Steps z (tracking (e + 1)) t.old t.new }
 {
-    table_words::set_all(t, z, Table::Touches, word::TOUCH * (e as usize), &[NONE, NONE, NONE, NONE]);
-    table_words::set_all(t, z, Table::Contacts, word::CELL * (e as usize), &[NONE, NONE, NONE, NONE]);
+    table_words::set_all(
+        t,
+        z,
+        Table::Touches,
+        word::TOUCH * (e as usize),
+        &[NONE, NONE, NONE, NONE],
+    );
+    table_words::set_all(
+        t,
+        z,
+        Table::Contacts,
+        word::CELL * (e as usize),
+        &[NONE, NONE, NONE, NONE],
+    );
     table_words::set(t, z, Table::Head, word::TRACKED, e + 1);
 }
 
@@ -43,24 +56,31 @@ pub fn grow_edges(t: &mut [u32], z: Sizes, k: u32)
     requires { Sound z t.old × (k ≤ z.edges) }
     ensures { Steps z (tracking k) t.old t.new }
 {
-    let mut tracked = table_words::get(t, z, Table::Head, word::TRACKED);
-    if tracked >= k {
-        return;
-    }
+    let tracked = table_words::get(t, z, Table::Head, word::TRACKED);
     // One turn for each edge that is taken in: at most as many as there are edges.
-    while tracked < k {
-        grow_edge(t, z, tracked);
-        tracked += 1;
+    for e in tracked..k {
+        grow_edge(t, z, e);
     }
 }
 
 // The edge e, which is tracked and not linked, is the last contact link of the live island i, between these two bodies.
-pub fn push_contact(t: &mut [u32], z: Sizes, i: u32, e: u32, s1: u32, g1: u32, s2: u32, g2: u32)
+pub fn push_contact(t: &mut [u32], z: Sizes, i: u32, e: u32, first: Handle, second: Handle)
     requires { Sound z t.old × (e < (extents (tables z t.old)).edges) × ((contacts_in z (tables z t.old)).home e ≡ none) × Lives z t.old i }
-    ensures { Steps z (contact_push i (contact_of e s1 g1 s2 g2)) t.old t.new }
+    ensures { Steps z (contact_push i (contact_of e first.slot.0 first.generation second.slot.0 second.generation)) t.old t.new }
 {
     table_words::push(t, z, Table::Contacts, i, e);
-    table_words::set_all(t, z, Table::Touches, word::TOUCH * (e as usize), &[s1, g1, s2, g2]);
+    table_words::set_all(
+        t,
+        z,
+        Table::Touches,
+        word::TOUCH * (e as usize),
+        &[
+            first.slot.0,
+            first.generation,
+            second.slot.0,
+            second.generation,
+        ],
+    );
 }
 
 // The linked edge e is taken out of its island's list, whose last link takes its place.
@@ -69,30 +89,34 @@ pub fn take_contact(t: &mut [u32], z: Sizes, e: u32)
     ensures { ContactGone z e t.old t.new }
 {
     table_words::remove(t, z, Table::Contacts, e);
-    table_words::set_all(t, z, Table::Touches, word::TOUCH * (e as usize), &[NONE, NONE, NONE, NONE]);
+    table_words::set_all(
+        t,
+        z,
+        Table::Touches,
+        word::TOUCH * (e as usize),
+        &[NONE, NONE, NONE, NONE],
+    );
 }
 
 // One more entry of the journal, for which there is room.
-pub fn push_entry(t: &mut [u32], z: Sizes, s1: u32, g1: u32, s2: u32, g2: u32)
+pub fn push_entry(t: &mut [u32], z: Sizes, first: Handle, second: Handle)
     requires { Sound z t.old × ((extents (tables z t.old)).journal < z.journal) }
-    ensures { Steps z (journalled (handle s1 g1) (handle s2 g2)) t.old t.new }
+    ensures { Steps z (journalled (handle first.slot.0 first.generation) (handle second.slot.0 second.generation)) t.old t.new }
 {
     let entries = table_words::get(t, z, Table::Head, word::JOURNAL_USED);
-    table_words::set_all(t, z, Table::Journal, word::ENTRY * (entries as usize), &[s1, g1, s2, g2]);
+    table_words::set_all(
+        t,
+        z,
+        Table::Journal,
+        word::ENTRY * (entries as usize),
+        &[
+            first.slot.0,
+            first.generation,
+            second.slot.0,
+            second.generation,
+        ],
+    );
     table_words::set(t, z, Table::Head, word::JOURNAL_USED, entries + 1);
-}
-
-// Is it the same body?
-pub fn same_handle(s1: u32, g1: u32, s2: u32, g2: u32) -> bool
-    ensures { result ≡ same_handle (handle s1 g1) (handle s2 g2) }
-{
-    if s1 != s2 {
-        return false;
-    }
-    if g1 != g2 {
-        return false;
-    }
-    true
 }
 
 // unlink_contact, on sound tables. A link from a body to itself is not journalled.
@@ -100,19 +124,15 @@ pub fn unlink_contact_on(t: &mut [u32], z: Sizes, e: u32) -> Answer
     requires { Sound z t.old }
     ensures { Does z (unlink_contact z e) t.old result t.new }
 {
-    let tracked = table_words::get(t, z, Table::Head, word::TRACKED);
-    if e >= tracked {
+    if e >= table_words::get(t, z, Table::Head, word::TRACKED)
+        || table_words::home(t, z, Table::Contacts, e) == NONE
+    {
         return Ok(Outcome::Nothing);
     }
-    let i = table_words::home(t, z, Table::Contacts, e);
-    if i == NONE {
-        return Ok(Outcome::Nothing);
-    }
-    let s1 = table_words::get(t, z, Table::Touches, word::TOUCH * (e as usize));
-    let g1 = table_words::get(t, z, Table::Touches, word::TOUCH * (e as usize) + word::GENERATION1);
-    let s2 = table_words::get(t, z, Table::Touches, word::TOUCH * (e as usize) + word::SLOT2);
-    let g2 = table_words::get(t, z, Table::Touches, word::TOUCH * (e as usize) + word::GENERATION2);
-    if same_handle(s1, g1, s2, g2) {
+    let at = word::TOUCH * (e as usize);
+    let first = table_words::handle_at(t, z, Table::Touches, at);
+    let second = table_words::handle_at(t, z, Table::Touches, at + word::SLOT2);
+    if first == second {
         take_contact(t, z, e);
         return Ok(Outcome::Done);
     }
@@ -121,6 +141,6 @@ pub fn unlink_contact_on(t: &mut [u32], z: Sizes, e: u32) -> Answer
         return Err(Refusal::JournalFull);
     }
     take_contact(t, z, e);
-    push_entry(t, z, s1, g1, s2, g2);
+    push_entry(t, z, first, second);
     Ok(Outcome::Done)
 }

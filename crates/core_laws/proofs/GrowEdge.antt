@@ -16,7 +16,7 @@ use Rattle.list_in_table.proofs.Same.{below}
 use Rattle.list_in_table.proofs.Order.{length-list, list_at}
 use Rattle.list_in_buffer.specs.Part.{Put}
 use Rattle.def_kinds.specs.declared.Sizes.{Sizes}
-use Rattle.def_state.specs.World.{World}
+use Rattle.def_state.specs.World.{World, done}
 use Rattle.def_state.specs.Fields.{tracked_set}
 use Rattle.def_state.specs.Links.{track}
 use Rattle.table_meaning.specs.Layout.{Tables, tables, total, head_at, head_span, contacts_at, contacts_span, touches_at, touches_span, head_put, contacts_put, touches_put, Extents, extents, contacts_in, elem_words}
@@ -32,7 +32,7 @@ use Rattle.core_laws.specs.Steps.{Steps}
 use Rattle.core_laws.specs.Linking.{tracking}
 use Rattle.core_laws.proofs.Good.{island-is, world_is, island-rule, head-rule}
 use Rattle.core_laws.proofs.Then.{does-as, does-then}
-use Rattle.core_laws.proofs.At.{steps-at, steps-none}
+use Rattle.core_laws.proofs.At.{steps-at, steps-none, steps-as}
 use Rattle.core_laws.proofs.LastOut.{map_same, blanked}
 use Rattle.core_laws.proofs.OneContact.{edge-rule, contact-is}
 
@@ -180,6 +180,13 @@ edge-grown {Z} {t} {t1} {t2} {t3} n S q l ns P Q R =
 pub edges-enough : {Z : Sizes} {t : List ℕ} (k : ℕ) → Sound Z t → k ≤ (extents (tables Z t)).edges → Steps Z (tracking k) t t
 unfolding tracking
 edges-enough {Z} {t} k S h = steps-none (track k) S (track-no k (world_of Z t) (let e = tracked-is Z t in omega arith))
+
+-- the same after a step that tracks no more than before
+pub edges-as_were : {Z : Sizes} {t t1 : List ℕ} (n k : ℕ) → n ≤ (extents (tables Z t)).edges → k ≤ (extents (tables Z t)).edges → Steps Z (tracking n) t t1 → Steps Z (tracking k) t t1
+unfolding tracking
+edges-as_were {Z} {t} {t1} n k hn hk A =
+    let e = tracked-is Z t in
+    steps-as (λ w. done (track n w)) (λ w. done (track k w)) (ap done (track-no n (world_of Z t) (omega arith) ∙ sym (track-no k (world_of Z t) (omega arith)))) A
 
 -- how many are tracked after it
 pub edges-after : {Z : Sizes} {t t1 : List ℕ} (k : ℕ) → Steps Z (tracking k) t t1 → (extents (tables Z t)).edges ≤ k → (extents (tables Z t1)).edges ≡ k

@@ -175,3 +175,7 @@ module _ (Z : Sizes) (t : List ℕ) (s g : ℕ) where
   pub home_is : Sound Z t → s < (extents (tables Z t)).slots → island_of (world_of Z t) s ≡ (members_in Z (tables Z t)).home s
   unfolding world_of
   home_is S l = island-of Z (extents (tables Z t)) (tables Z t) S.good s l
+
+  -- there is room for the slot that a handle names
+  pub room-named : Sound Z t → named (world_of Z t) (handle s g) ≡ true → s < Z.slots
+  room-named S e = let n = (named_is e).slot_lt in let m = S.good.slots_le in omega arith

@@ -1,10 +1,11 @@
 -- unlink_contact, where it is known whether and where the edge is linked; the island of a body that a handle names.
 use mathlib.Core.Path.{◌≡◌, refl, sym, ◌∙◌, ap}
 use mathlib.Core.Logic.{◌≢◌}
-use mathlib.Core.Bool.{Bool, true, false}
+use mathlib.Core.Bool.{Bool, true, false, ◌&&◌}
 use mathlib.Core.List.{List}
 use Prim.Native.Nat.{ℕ, ◌+◌, ◌*◌, ◌≤◌, ◌<◌}
 use native.Mathlib.Omega.{arith}
+use lib.Dec.{eqb}
 use borrow.Author.Tests.{eq-eqb, ne_eqb, le-leb, lt-leb}
 use lib.ListN.{length, get_or}
 use Rattle.list_in_table.specs.Rules.{none}
@@ -29,18 +30,10 @@ use Rattle.core_laws.proofs.Names.{named_is, home_is}
 use Rattle.core_laws.proofs.OneContact.{contact-is}
 use Rattle.core_laws.proofs.Touching.{contact-far, contact-none, contact-home, contact-place, contact-link}
 
--- ---- the same body, in numbers
-pub handles-slot : (a b c d : ℕ) → a ≢ c → same_handle (handle a b) (handle c d) ≡ false
+-- ---- the same body, as `==` of handles compares them
+pub handles-equal : {r : Bool} (a b c d : ℕ) → r ≡ (eqb a c && eqb b d) → same_handle (handle a b) (handle c d) ≡ r
 unfolding same_handle
-handles-slot a b c d n = rw (ne_eqb a c n)
-
-pub handles-generation : (a b c d : ℕ) → a ≡ c → b ≢ d → same_handle (handle a b) (handle c d) ≡ false
-unfolding same_handle
-handles-generation a b c d q n = rw (eq-eqb a c q, ne_eqb b d n)
-
-pub handles-same : (a b c d : ℕ) → a ≡ c → b ≡ d → same_handle (handle a b) (handle c d) ≡ true
-unfolding same_handle
-handles-same a b c d q r = rw (eq-eqb a c q, eq-eqb b d r)
+handles-equal a b c d e = sym e
 
 -- ---- what unlink_contact says of an edge whose island i, place p and link l are known
 module _ (Z : Sizes) (e i p : ℕ) (l : ContactLink) (w : World) where
@@ -74,6 +67,10 @@ module _ (Z : Sizes) (e i p : ℕ) (l : ContactLink) (w : World) where
 -- the words of a link
 pub link-words : (x : List ℕ) (e a b c d : ℕ) → a ≡ get_or x (4 * e) 0 → b ≡ get_or x (4 * e + 1) 0 → c ≡ get_or x (4 * e + 2) 0 → d ≡ get_or x (4 * e + 3) 0 → contact_at x e ≡ contact_of e a b c d
 link-words x e a b c d p q r s = let k : 4 * e + 2 + 1 ≡ 4 * e + 3 = omega arith in contact-is (sym p) (sym q) (sym r) (ap (λ (j : ℕ). get_or x j 0) k ∙ sym s)
+
+-- the same, read as two handles
+pub link-handles : (x : List ℕ) (e a b c d : ℕ) → (a ≡ get_or x (4 * e) 0) × (b ≡ get_or x (4 * e + 1) 0) → (c ≡ get_or x (4 * e + 2) 0) × (d ≡ get_or x (4 * e + 2 + 1) 0) → contact_at x e ≡ contact_of e a b c d
+link-handles x e a b c d p q = contact-is (sym p.0) (sym p.1) (sym q.0) (sym q.1)
 
 -- ---- the same of a buffer
 module _ {Z : Sizes} {t : List ℕ} (e : ℕ) (S : Sound Z t) where

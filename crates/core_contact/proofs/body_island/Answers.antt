@@ -1,17 +1,16 @@
-use native.Mathlib.Omega.{arith}
 use mathlib.Core.Path.{sym, ◌∙◌}
-use Rattle.core_laws.proofs.Names.{named_is}
+use Rattle.core_laws.proofs.Names.{room-named}
 use Rattle.core_laws.proofs.Unlink.{island-unnamed, island-named}
 use Rattle.core_contact.proofs.body_island.Goals as goal
 
 pub returns-then-not-is_named : goal.returns-then-not-is_named
-returns-then-not-is_named c = sym (island-unnamed c.args.s c.args.g _ (sym c.is_named.ensures ∙ c.if-not-is_named.true))
+returns-then-not-is_named c = island-unnamed c.args.h.slot.0 c.args.h.generation _ (sym c.is_named.ensures ∙ c.if-not-is_named.true)
 
-pub home-requires : goal.home-requires
-home-requires c =
-    let n = (named_is c.args.z c.args.t.now c.args.s c.args.g (sym c.is_named.ensures ∙ c.if-not-is_named.false)).slot_lt in
-    let m = c.requires.good.slots_le in
-    (c.requires.long, omega arith)
+pub home-i-requires : goal.home-i-requires
+home-i-requires c = (c.requires.long, room-named _ _ _ _ c.requires (sym c.is_named.ensures ∙ c.if-not-is_named.false))
 
-pub returns : goal.returns
-returns c = c.home.ensures.0 ∙ sym (island-named c.args.s c.args.g c.requires (sym c.is_named.ensures ∙ c.if-not-is_named.false))
+pub returns-then-i : goal.returns-then-i
+returns-then-i c = island-named c.args.h.slot.0 c.args.h.generation c.requires (sym c.is_named.ensures ∙ c.if-not-is_named.false) ∙ sym c.home-i.ensures.0 ∙ c.if-i.true
+
+pub returns-else-i : goal.returns-else-i
+returns-else-i c = (c.home-i.ensures.0 ∙ sym (island-named c.args.h.slot.0 c.args.h.generation c.requires (sym c.is_named.ensures ∙ c.if-not-is_named.false)), c.if-i.false)

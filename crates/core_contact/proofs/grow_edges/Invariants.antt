@@ -1,11 +1,9 @@
-use Prim.Native.Nat.{◌-◌, ◌≤◌}
+use mathlib.Core.Path.{◌≡◌}
+use Prim.Native.Nat.{◌≤◌}
 use Rattle.table_meaning.specs.Layout.{tables, extents}
 use Rattle.core_laws.specs.Steps.{Steps}
 use Rattle.core_laws.specs.Linking.{tracking}
 use Rattle.core_contact.proofs.grow_edges.Given as goal
 
-abbrev pub invariant-loop-tracked : goal.invariant-loop-tracked
-invariant-loop-tracked l = Steps l.z (tracking l.tracked) l.initial.t l.t × ((extents (tables l.z l.initial.t)).edges ≤ l.tracked) × (l.tracked ≤ l.k)
-
-abbrev pub decreases-loop-tracked : goal.decreases-loop-tracked
-decreases-loop-tracked l = l.k - l.tracked
+abbrev pub invariant-loop-e : goal.invariant-loop-e
+invariant-loop-e l = Steps l.z (tracking l.e) l.initial.t l.t × ((extents (tables l.z l.initial.t)).edges ≤ l.e) × (l.k ≤ (extents (tables l.z l.initial.t)).edges → l.e ≡ (extents (tables l.z l.initial.t)).edges)

@@ -1,6 +1,5 @@
 -- An answer that is true just where a rule holds.
 use mathlib.Core.Path.{◌≡◌, refl, subst}
-use mathlib.Core.Logic.{◌⊎◌, ⊎_elim}
 use mathlib.Core.Bool.{Bool, true, false, false≢true}
 use mathlib.Core.List.{List}
 use Prim.Native.Nat.{ℕ, ◌<◌}
@@ -24,9 +23,6 @@ is-yes x = ((λ _. x), (λ _. refl))
 
 pub is-no : {X : Type 0} → (X → ⊥) → Is false X
 is-no f = ((λ e. absurd (false≢true e)), (λ x. absurd (f x)))
-
-pub is-neither : {X Y : Type 0} → (X → ⊥) → (Y → ⊥) → Is false (X ⊎ Y)
-is-neither f g = is-no (λ o. ⊎_elim f g o)
 
 -- the k-th number of a range from 0 is k
 at-zero : (n k : ℕ) → k < n → get_or (range_with_len 0 n) k 0 ≡ k

@@ -8,55 +8,65 @@ ghost use Rattle.list_in_table.specs.Table.{view, Room, Wf};
 use def_kinds::NONE;
 use list_in_table::{CELL, END, LAST, NEXT, PLACE, PREV};
 
+// Where a chain table's elements and its lists begin, and how many elements and lists are in use.
+// The words are lent beside it: where a struct lent them too, each promise would say x.entry.t.now for t.now.
+#[derive(Clone, Copy)]
+struct Extent {
+    base: usize,
+    ends: usize,
+    n: u32,
+    m: u32,
+}
+
 // Is what stands before e right?
-fn is_back(t: &[u32], base: usize, ends: usize, n: u32, m: u32, e: u32) -> bool
-    requires { Room t.now base ends n m × (e < n) }
-    ensures { Is result (First n m (view t.now base ends) e ⊎ After n m (view t.now base ends) e) }
+fn is_back(t: &[u32], x: Extent, e: u32) -> bool
+    requires { Room t.now x.base x.ends x.n x.m × (e < x.n) }
+    ensures { Is result (First x.n x.m (view t.now x.base x.ends) e ⊎ After x.n x.m (view t.now x.base x.ends) e) }
 {
-    let cell = base + CELL * (e as usize);
+    let cell = x.base + CELL * (e as usize);
     let list = t[cell];
     let place = t[cell + PLACE];
     let prev = t[cell + PREV];
     if prev == NONE {
         return place == 0;
     }
-    if prev >= n {
+    if prev >= x.n {
         return false;
     }
-    let prev_cell = base + CELL * (prev as usize);
+    let prev_cell = x.base + CELL * (prev as usize);
     t[prev_cell] == list
         && t[prev_cell + PLACE] as usize + 1 == place as usize
         && t[prev_cell + NEXT] == e
 }
 
 // Is what stands after e right?
-fn is_fore(t: &[u32], base: usize, ends: usize, n: u32, m: u32, e: u32) -> bool
-    requires { Room t.now base ends n m × (e < n) × ((view t.now base ends).home e < m) }
-    ensures { Is result (Final n m (view t.now base ends) e ⊎ Before n m (view t.now base ends) e) }
+fn is_fore(t: &[u32], x: Extent, e: u32) -> bool
+    requires { Room t.now x.base x.ends x.n x.m × (e < x.n) × ((view t.now x.base x.ends).home e < x.m) }
+    ensures { Is result (Final x.n x.m (view t.now x.base x.ends) e ⊎ Before x.n x.m (view t.now x.base x.ends) e) }
 {
-    let cell = base + CELL * (e as usize);
+    let cell = x.base + CELL * (e as usize);
     let list = t[cell];
     let place = t[cell + PLACE];
     let next = t[cell + NEXT];
     if next == NONE {
-        let end = ends + END * (list as usize);
+        let end = x.ends + END * (list as usize);
         return t[end] as usize == place as usize + 1 && t[end + LAST] == e;
     }
-    if next >= n {
+    if next >= x.n {
         return false;
     }
-    let next_cell = base + CELL * (next as usize);
+    let next_cell = x.base + CELL * (next as usize);
     t[next_cell] == list
         && t[next_cell + PLACE] as usize == place as usize + 1
         && t[next_cell + PREV] == e
 }
 
 // Is the element e right?
-fn is_elem(t: &[u32], base: usize, ends: usize, n: u32, m: u32, e: u32) -> bool
-    requires { Room t.now base ends n m × (e < n) }
-    ensures { Is result (Blank n m (view t.now base ends) e ⊎ Held n m (view t.now base ends) e) }
+fn is_elem(t: &[u32], x: Extent, e: u32) -> bool
+    requires { Room t.now x.base x.ends x.n x.m × (e < x.n) }
+    ensures { Is result (Blank x.n x.m (view t.now x.base x.ends) e ⊎ Held x.n x.m (view t.now x.base x.ends) e) }
 {
-    let cell = base + CELL * (e as usize);
+    let cell = x.base + CELL * (e as usize);
     let list = t[cell];
     let place = t[cell + PLACE];
     let prev = t[cell + PREV];
@@ -64,28 +74,28 @@ fn is_elem(t: &[u32], base: usize, ends: usize, n: u32, m: u32, e: u32) -> bool
     if list == NONE {
         return place == NONE && prev == NONE && next == NONE;
     }
-    if list >= m {
+    if list >= x.m {
         return false;
     }
-    let end = ends + END * (list as usize);
-    place < t[end] && is_back(t, base, ends, n, m, e) && is_fore(t, base, ends, n, m, e)
+    let end = x.ends + END * (list as usize);
+    place < t[end] && is_back(t, x, e) && is_fore(t, x, e)
 }
 
 // Is the list i right?
-fn is_list(t: &[u32], base: usize, ends: usize, n: u32, m: u32, i: u32) -> bool
-    requires { Room t.now base ends n m × (i < m) }
-    ensures { Is result (Empty n m (view t.now base ends) i ⊎ Full n m (view t.now base ends) i) }
+fn is_list(t: &[u32], x: Extent, i: u32) -> bool
+    requires { Room t.now x.base x.ends x.n x.m × (i < x.m) }
+    ensures { Is result (Empty x.n x.m (view t.now x.base x.ends) i ⊎ Full x.n x.m (view t.now x.base x.ends) i) }
 {
-    let end = ends + END * (i as usize);
+    let end = x.ends + END * (i as usize);
     let count = t[end];
     let last = t[end + LAST];
     if last == NONE {
         return count == 0;
     }
-    if last >= n {
+    if last >= x.n {
         return false;
     }
-    let last_cell = base + CELL * (last as usize);
+    let last_cell = x.base + CELL * (last as usize);
     t[last_cell] == i && t[last_cell + PLACE] as usize + 1 == count as usize
 }
 
@@ -94,6 +104,6 @@ pub fn audit(t: &[u32], base: usize, ends: usize, n: u32, m: u32) -> bool
     requires { Room t.now base ends n m }
     ensures { Is result (Wf t.now base ends n m) }
 {
-    (0..n).all(|e| is_elem(t, base, ends, n, m, e))
-        && (0..m).all(|i| is_list(t, base, ends, n, m, i))
+    let x = Extent { base, ends, n, m };
+    (0..n).all(|e| is_elem(t, x, e)) && (0..m).all(|i| is_list(t, x, i))
 }

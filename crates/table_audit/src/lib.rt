@@ -124,12 +124,13 @@ impl EdgeWords {
     }
 }
 
-#[derive(Clone, Copy, Debug, PartialEq, Eq)]
-pub struct KeyWords {
-    pub kind: u32,
-    pub first: u32,
-    pub second: u32,
-    pub third: u32,
+// A joint key's four words. Two keys are compared in this order: the kind, which most keys share, comes last.
+#[derive(Clone, Copy, PartialEq, Eq)]
+struct KeyWords {
+    first: u32,
+    second: u32,
+    third: u32,
+    kind: u32,
 }
 
 // A joint place: its island, its home among the free places, its key and the two handles of its link.

@@ -53,7 +53,7 @@ pub fn clear_scan(t: &mut [u32], z: Sizes)
 {
     let waiting = table_words::count(t, z, Table::Scan, 0);
     // One turn for each island in the scan's list: at most as many as there are islands.
-    for turn in 0..waiting {
+    for _ in 0..waiting {
         forget_last(t, z);
     }
 }

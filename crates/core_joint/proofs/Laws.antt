@@ -1,6 +1,9 @@
--- What the search for a linked place with a key found.
+-- What the search for a linked place with a key found; whether a link's ends are one body.
 use mathlib.Core.Path.{◌≡◌, sym, subst}
-use mathlib.Core.Logic.{◌≢◌}
+use mathlib.Core.Bool.{Bool, ◌&&◌}
+use mathlib.Core.List.{List}
+use lib.Dec.{eqb}
+use lib.ListN.{get_or}
 use Prim.Native.Nat.{ℕ, ◌+◌, ◌≤◌, ◌<◌}
 use native.Mathlib.Omega.{arith}
 use Rattle.std.specs.declared.option.Option.{Option}
@@ -8,6 +11,8 @@ use Rattle.std.specs.declared.option.Option.TheVariants.{None, Some}
 use Rattle.std.specs.Option.{MatchOption}
 use Rattle.def_kinds.specs.declared.JointKey.{JointKey}
 use Rattle.def_kinds.specs.declared.Sizes.{Sizes}
+use Rattle.def_state.specs.Links.{same_handle}
+use Rattle.table_meaning.specs.Decode.{handle_at}
 use Rattle.table_meaning.specs.declared.KeyWords.{KeyWords}
 use Rattle.table_meaning.specs.Keys.{words_of}
 use Rattle.table_meaning.specs.Layout.{Tables, extents}
@@ -22,3 +27,9 @@ pub placed : (Z : Sizes) (T : Tables) (key : JointKey) {w : KeyWords} {n : ℕ} 
     → MatchOption r (NoPlaceHas Z T key) (PlaceHas Z T key)
 placed Z T key e l None h = λ k kl a. h k (omega arith) (omega arith) (subst (λ (x : KeyWords). Linked Z T x k) (sym e) a)
 placed Z T key e l (Some p) h = record { place_lt = omega (arith, h.1); keyed = subst (λ (x : KeyWords). Linked Z T x p) e h.2 }
+
+-- the handles at j and k are one body where the words that were read are
+pub ends-are : (x : List ℕ) (j k : ℕ) {r : Bool} (a b c d : ℕ) → (a ≡ get_or x j 0) × (b ≡ get_or x (j + 1) 0) → (c ≡ get_or x k 0) × (d ≡ get_or x (k + 1) 0) → r ≡ (eqb a c && eqb b d)
+    → same_handle (handle_at x j) (handle_at x k) ≡ r
+unfolding same_handle
+ends-are x j k a b c d p q e = rw (sym p.0, sym p.1, sym q.0, sym q.1) (sym e)

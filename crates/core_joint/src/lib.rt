@@ -58,9 +58,27 @@ pub fn grow_place(t: &mut [u32], z: Sizes, p: u32)
 {
     let i = p as usize;
     table_words::set_all(t, z, Table::Keys, word::KEY * i, &[NONE, NONE, NONE, NONE]);
-    table_words::set_all(t, z, Table::Keys, word::KEY * i + word::KEY_BODIES, &[NONE, NONE, NONE, NONE]);
-    table_words::set_all(t, z, Table::Joints, word::CELL * i, &[NONE, NONE, NONE, NONE]);
-    table_words::set_all(t, z, Table::Spare, word::CELL * i, &[NONE, NONE, NONE, NONE]);
+    table_words::set_all(
+        t,
+        z,
+        Table::Keys,
+        word::KEY * i + word::KEY_BODIES,
+        &[NONE, NONE, NONE, NONE],
+    );
+    table_words::set_all(
+        t,
+        z,
+        Table::Joints,
+        word::CELL * i,
+        &[NONE, NONE, NONE, NONE],
+    );
+    table_words::set_all(
+        t,
+        z,
+        Table::Spare,
+        word::CELL * i,
+        &[NONE, NONE, NONE, NONE],
+    );
     table_words::push(t, z, Table::Spare, 0, p);
     table_words::set(t, z, Table::Head, word::JOINTS_USED, p + 1);
 }
@@ -100,7 +118,12 @@ pub fn push_joint(t: &mut [u32], z: Sizes, i: u32, key: JointKey, first: Handle,
         z,
         Table::Keys,
         at + word::KEY_BODIES,
-        &[first.slot.0, first.generation, second.slot.0, second.generation],
+        &[
+            first.slot.0,
+            first.generation,
+            second.slot.0,
+            second.generation,
+        ],
     );
 }
 
@@ -110,8 +133,20 @@ pub fn take_joint(t: &mut [u32], z: Sizes, p: u32)
     ensures { JointGone z p t.old t.new }
 {
     table_words::remove(t, z, Table::Joints, p);
-    table_words::set_all(t, z, Table::Keys, word::KEY * (p as usize), &[NONE, NONE, NONE, NONE]);
-    table_words::set_all(t, z, Table::Keys, word::KEY * (p as usize) + word::KEY_BODIES, &[NONE, NONE, NONE, NONE]);
+    table_words::set_all(
+        t,
+        z,
+        Table::Keys,
+        word::KEY * (p as usize),
+        &[NONE, NONE, NONE, NONE],
+    );
+    table_words::set_all(
+        t,
+        z,
+        Table::Keys,
+        word::KEY * (p as usize) + word::KEY_BODIES,
+        &[NONE, NONE, NONE, NONE],
+    );
     table_words::push(t, z, Table::Spare, 0, p);
 }
 

@@ -2,7 +2,6 @@
 use borrow.Author.Rules.{rules}
 use borrow.Author.Tests.{tests}
 use Rattle.std.proofs.lemmas.Iterator.{first_from_Range}
-use Rattle.table_meaning.specs.Keys.{words_of}
 use Rattle.table_meaning.specs.Layout.{tables}
 use Rattle.core_laws.specs.Places.{LinkedAs}
 use Rattle.core_joint.proofs.Laws.{placed}

@@ -72,21 +72,21 @@ pub fn island(t: &[u32], h: Handle) -> Result<Option<Island>, Refusal>
 pub fn contact(t: &mut [u32], edge: Edge, first: Handle, second: Handle) -> Answer
     ensures { Called rig (link_contact rig edge.0 (handle first.slot.0 first.generation) (handle second.slot.0 second.generation)) t.old result t.new }
 {
-    sized::contact(t, Sizes::RIG, edge.0, first, second)
+    sized::contact(t, Sizes::RIG, edge, first, second)
 }
 
 // Unlinks the contact of an edge number, and journals its removal.
 pub fn uncontact(t: &mut [u32], edge: Edge) -> Answer
     ensures { Called rig (unlink_contact rig edge.0) t.old result t.new }
 {
-    sized::uncontact(t, Sizes::RIG, edge.0)
+    sized::uncontact(t, Sizes::RIG, edge)
 }
 
 // The edge `removed` is gone, and the edge `last` has taken its number.
 pub fn renumber(t: &mut [u32], removed: Edge, last: Edge) -> Answer
     ensures { Called rig (contact_edge_removed removed.0 last.0) t.old result t.new }
 {
-    sized::renumber(t, Sizes::RIG, removed.0, last.0)
+    sized::renumber(t, Sizes::RIG, removed, last)
 }
 
 // Links a joint between two bodies, merging their islands if they differ.
@@ -128,7 +128,7 @@ pub fn begin(t: &mut [u32]) -> Answer
 pub fn observe(t: &mut [u32], island: Island, eligible: bool) -> Answer
     ensures { Called rig (observe_body_for_sleep island.0 eligible) t.old result t.new }
 {
-    sized::observe(t, Sizes::RIG, island.0, eligible)
+    sized::observe(t, Sizes::RIG, island, eligible)
 }
 
 // Lists the islands that may sleep, in order of first observation, and closes the scan.
@@ -142,28 +142,28 @@ pub fn finish(t: &mut [u32], out: &mut [u32]) -> Result<u32, Refusal>
 pub fn sleep(t: &mut [u32], island: Island) -> Answer
     ensures { Called rig (mark_island_sleeping island.0) t.old result t.new }
 {
-    sized::sleep(t, Sizes::RIG, island.0)
+    sized::sleep(t, Sizes::RIG, island)
 }
 
 // The island wakes.
 pub fn wake(t: &mut [u32], island: Island) -> Answer
     ensures { Called rig (wake_island island.0) t.old result t.new }
 {
-    sized::wake(t, Sizes::RIG, island.0)
+    sized::wake(t, Sizes::RIG, island)
 }
 
 // Splits a live island into its components.
 pub fn split(t: &mut [u32], island: Island) -> Answer
     ensures { Called rig (split_island_now island.0) t.old result t.new }
 {
-    sized::split(t, Sizes::RIG, island.0)
+    sized::split(t, Sizes::RIG, island)
 }
 
 // The island waits for its split; any number.
 pub fn schedule(t: &mut [u32], island: Island) -> Answer
     ensures { Called rig (schedule_split island.0) t.old result t.new }
 {
-    sized::schedule(t, Sizes::RIG, island.0)
+    sized::schedule(t, Sizes::RIG, island)
 }
 
 // Runs the waiting split.
@@ -177,5 +177,5 @@ pub fn run(t: &mut [u32]) -> Answer
 pub fn may_bid(t: &[u32], island: Island) -> Result<bool, Refusal>
     ensures { Asks rig (may_bid island.0) refused_bid t.now result }
 {
-    sized::may_bid(t, Sizes::RIG, island.0)
+    sized::may_bid(t, Sizes::RIG, island)
 }

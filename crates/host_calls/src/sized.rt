@@ -20,7 +20,7 @@ ghost use Rattle.core_laws.specs.Steps.{handle};
 ghost use Rattle.def_state.specs.Scan.{begin_sleep_scan, observe_body_for_sleep, mark_island_sleeping, wake_island};
 ghost use Rattle.core_finish.specs.Listing.{Finish};
 
-use def_kinds::{Answer, Flags, Handle, Island, JointKey, Refusal, Sizes};
+use def_kinds::{Answer, Edge, Flags, Handle, Island, JointKey, Refusal, Sizes};
 
 // Are the tables well formed? A call on others is refused.
 fn audit(t: &[u32], z: Sizes) -> Result<(), Refusal>
@@ -85,11 +85,11 @@ pub fn island(t: &[u32], z: Sizes, h: Handle) -> Result<Option<Island>, Refusal>
     core_remove::island_on(t, z, h)
 }
 
-pub fn uncontact(t: &mut [u32], z: Sizes, e: u32) -> Answer
-    ensures { Called z (unlink_contact z e) t.old result t.new }
+pub fn uncontact(t: &mut [u32], z: Sizes, edge: Edge) -> Answer
+    ensures { Called z (unlink_contact z edge.0) t.old result t.new }
 {
     audit(t, z)?;
-    core_contact::unlink_contact_on(t, z, e)
+    core_contact::unlink_contact_on(t, z, edge.0)
 }
 
 pub fn resolve(t: &mut [u32], z: Sizes) -> Answer
@@ -99,18 +99,18 @@ pub fn resolve(t: &mut [u32], z: Sizes) -> Answer
     core_resolve::resolve_on(t, z)
 }
 
-pub fn contact(t: &mut [u32], z: Sizes, e: u32, first: Handle, second: Handle) -> Answer
-    ensures { Called z (link_contact z e (handle first.slot.0 first.generation) (handle second.slot.0 second.generation)) t.old result t.new }
+pub fn contact(t: &mut [u32], z: Sizes, edge: Edge, first: Handle, second: Handle) -> Answer
+    ensures { Called z (link_contact z edge.0 (handle first.slot.0 first.generation) (handle second.slot.0 second.generation)) t.old result t.new }
 {
     audit(t, z)?;
-    core_link::link_contact_on(t, z, e, first, second)
+    core_link::link_contact_on(t, z, edge.0, first, second)
 }
 
-pub fn renumber(t: &mut [u32], z: Sizes, removed: u32, last: u32) -> Answer
-    ensures { Called z (contact_edge_removed removed last) t.old result t.new }
+pub fn renumber(t: &mut [u32], z: Sizes, removed: Edge, last: Edge) -> Answer
+    ensures { Called z (contact_edge_removed removed.0 last.0) t.old result t.new }
 {
     audit(t, z)?;
-    core_renumber::renumber_on(t, z, removed, last)
+    core_renumber::renumber_on(t, z, removed.0, last.0)
 }
 
 pub fn joint(t: &mut [u32], z: Sizes, key: JointKey, first: Handle, second: Handle) -> Answer
@@ -144,11 +144,11 @@ pub fn begin(t: &mut [u32], z: Sizes) -> Answer
     core_scan::begin_on(t, z)
 }
 
-pub fn observe(t: &mut [u32], z: Sizes, i: u32, eligible: bool) -> Answer
-    ensures { Called z (observe_body_for_sleep i eligible) t.old result t.new }
+pub fn observe(t: &mut [u32], z: Sizes, island: Island, eligible: bool) -> Answer
+    ensures { Called z (observe_body_for_sleep island.0 eligible) t.old result t.new }
 {
     audit(t, z)?;
-    core_scan::observe_on(t, z, i, eligible)
+    core_scan::observe_on(t, z, island.0, eligible)
 }
 
 // The list stands at the front of the output, which is written only at the answer Done.
@@ -159,35 +159,35 @@ pub fn finish(t: &mut [u32], z: Sizes, out: &mut [u32]) -> Result<u32, Refusal>
     core_finish::finish_on(t, z, out)
 }
 
-pub fn sleep(t: &mut [u32], z: Sizes, i: u32) -> Answer
-    ensures { Called z (mark_island_sleeping i) t.old result t.new }
+pub fn sleep(t: &mut [u32], z: Sizes, island: Island) -> Answer
+    ensures { Called z (mark_island_sleeping island.0) t.old result t.new }
 {
     audit(t, z)?;
-    core_sleep::sleep_on(t, z, i)
+    core_sleep::sleep_on(t, z, island.0)
 }
 
-pub fn wake(t: &mut [u32], z: Sizes, i: u32) -> Answer
-    ensures { Called z (wake_island i) t.old result t.new }
+pub fn wake(t: &mut [u32], z: Sizes, island: Island) -> Answer
+    ensures { Called z (wake_island island.0) t.old result t.new }
 {
     audit(t, z)?;
-    core_sleep::wake_on(t, z, i)
+    core_sleep::wake_on(t, z, island.0)
 }
 
 // ---- the split. Its scratch is local, for at most 4,096 bodies.
 
-pub fn split(t: &mut [u32], z: Sizes, i: u32) -> Answer
+pub fn split(t: &mut [u32], z: Sizes, island: Island) -> Answer
     requires { z.slots ≤ 4096 }
-    ensures { Called z (split_island_now i) t.old result t.new }
+    ensures { Called z (split_island_now island.0) t.old result t.new }
 {
     audit(t, z)?;
-    split_island::split_on(t, z, i)
+    split_island::split_on(t, z, island.0)
 }
 
-pub fn schedule(t: &mut [u32], z: Sizes, i: u32) -> Answer
-    ensures { Called z (schedule_split i) t.old result t.new }
+pub fn schedule(t: &mut [u32], z: Sizes, island: Island) -> Answer
+    ensures { Called z (schedule_split island.0) t.old result t.new }
 {
     audit(t, z)?;
-    split_pending::schedule_on(t, z, i)
+    split_pending::schedule_on(t, z, island.0)
 }
 
 pub fn run(t: &mut [u32], z: Sizes) -> Answer
@@ -198,9 +198,9 @@ pub fn run(t: &mut [u32], z: Sizes) -> Answer
     split_pending::run_on(t, z)
 }
 
-pub fn may_bid(t: &[u32], z: Sizes, i: u32) -> Result<bool, Refusal>
-    ensures { Asks z (may_bid i) refused_bid t.now result }
+pub fn may_bid(t: &[u32], z: Sizes, island: Island) -> Result<bool, Refusal>
+    ensures { Asks z (may_bid island.0) refused_bid t.now result }
 {
     audit(t, z)?;
-    Ok(split_pending::may_bid(t, z, i))
+    Ok(split_pending::may_bid(t, z, island.0))
 }

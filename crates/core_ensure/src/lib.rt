@@ -11,30 +11,22 @@ ghost use Rattle.table_meaning.specs.Does.{Does};
 ghost use Rattle.core_laws.specs.Steps.{handle, island_blanked, found, Steps};
 ghost use Rattle.core_laws.specs.Loose.{Loosely, IslandMore, MadeReady};
 
-use def_kinds::{Answer, NONE, Outcome, Sizes};
+use def_kinds::{Answer, Handle, NONE, Outcome, Sizes};
 use table_meaning::{Table, word};
 
 // Is it a live, enabled, non-fixed non-member?
-pub fn may_join(t: &[u32], z: Sizes, s: u32, g: u32) -> bool
+pub fn may_join(t: &[u32], z: Sizes, h: Handle) -> bool
     requires { Sound z t.now }
-    ensures { result ≡ may_join (world_of z t.now) (handle s g) }
+    ensures { result ≡ may_join (world_of z t.now) (handle h.slot.0 h.generation) }
 {
-    if !core_body::is_named(t, z, s, g) {
+    if !core_body::is_named(t, z, h) {
         return false;
     }
-    let fixed = table_words::get(t, z, Table::Slots, word::SLOT * (s as usize) + word::FIXED);
-    if fixed == 1 {
-        return false;
-    }
-    let enabled = table_words::get(t, z, Table::Slots, word::SLOT * (s as usize) + word::ENABLED);
-    if enabled != 1 {
-        return false;
-    }
-    let home = table_words::home(t, z, Table::Members, s);
-    if home != NONE {
-        return false;
-    }
-    true
+    let s = h.slot.0;
+    let at = word::SLOT * (s as usize);
+    table_words::get(t, z, Table::Slots, at + word::FIXED) != 1
+        && table_words::get(t, z, Table::Slots, at + word::ENABLED) == 1
+        && table_words::home(t, z, Table::Members, s) == NONE
 }
 
 // The words of an island number that is taken in: no bodies, no links, not observed, not yet in the free stack.
@@ -52,7 +44,13 @@ fn blank_island(t: &mut [u32], z: Sizes, m: u32)
     table_words::set_all(t, z, Table::Rows, word::ROW * i, &[0, 0, 0]);
     table_words::set_all(t, z, Table::Scan, word::CELL * i, &[NONE, NONE, NONE, NONE]);
     table_words::set(t, z, Table::Fit, i, 0);
-    table_words::set_all(t, z, Table::Freed, word::CELL * i, &[NONE, NONE, NONE, NONE]);
+    table_words::set_all(
+        t,
+        z,
+        Table::Freed,
+        word::CELL * i,
+        &[NONE, NONE, NONE, NONE],
+    );
 }
 
 // The island number m, the first that was never used, comes into use, freed.
@@ -70,12 +68,10 @@ pub fn make_ready(t: &mut [u32], z: Sizes)
     requires { Loosely z t.old × ((freed_in z (tables z t.old)).count 0 ≡ 0 → ((extents (tables z t.old)).islands < z.islands) × ((extents (tables z t.old)).islands < none)) }
     ensures { MadeReady z t.old t.new }
 {
-    let freed = table_words::count(t, z, Table::Freed, 0);
-    if freed != 0 {
-        return;
+    if table_words::count(t, z, Table::Freed, 0) == 0 {
+        let next = table_words::get(t, z, Table::Head, word::ISLANDS_USED);
+        grow_island(t, z, next);
     }
-    let next = table_words::get(t, z, Table::Head, word::ISLANDS_USED);
-    grow_island(t, z, next);
 }
 
 // The last freed number becomes an island of the body in slot s, a live body that is in no island.
@@ -83,22 +79,33 @@ pub fn found_island(t: &mut [u32], z: Sizes, s: u32)
     requires { Sound z t.old × (s < (extents (tables z t.old)).slots) × ((members_in z (tables z t.old)).home s ≡ none) × (get_or (tables z t.old).slots (5 * s) 0 ≢ none) × (0 < (freed_in z (tables z t.old)).count 0) × (get_or (tables z t.old).slots (5 * s + 4) 0 ≤ 1) }
     ensures { Steps z (found s (flag (get_or (tables z t.old).slots (5 * s + 4) 0))) t.old t.new }
 {
-    let asleep = table_words::get(t, z, Table::Slots, word::SLOT * (s as usize) + word::SLEEPING);
+    let asleep = table_words::get(
+        t,
+        z,
+        Table::Slots,
+        word::SLOT * (s as usize) + word::SLEEPING,
+    );
     let i = table_words::last(t, z, Table::Freed, 0);
     table_words::remove(t, z, Table::Freed, i);
     table_words::push(t, z, Table::Members, i, s);
-    table_words::set(t, z, Table::Rows, word::ROW * (i as usize) + word::ASLEEP, asleep);
+    table_words::set(
+        t,
+        z,
+        Table::Rows,
+        word::ROW * (i as usize) + word::ASLEEP,
+        asleep,
+    );
 }
 
 // ensure, on sound tables.
-pub fn ensure_on(t: &mut [u32], z: Sizes, s: u32, g: u32) -> Answer
+pub fn ensure_on(t: &mut [u32], z: Sizes, h: Handle) -> Answer
     requires { Sound z t.old }
-    ensures { Does z (ensure (handle s g)) t.old result t.new }
+    ensures { Does z (ensure (handle h.slot.0 h.generation)) t.old result t.new }
 {
-    if !may_join(t, z, s, g) {
+    if !may_join(t, z, h) {
         return Ok(Outcome::Nothing);
     }
     make_ready(t, z);
-    found_island(t, z, s);
+    found_island(t, z, h.slot.0);
     Ok(Outcome::Done)
 }

@@ -1,10 +1,12 @@
 -- When a number is that of a live island: it is in use, and a body is in its list.
-use mathlib.Core.Path.{◌≡◌, sym, ◌∙◌, ap}
-use mathlib.Core.Logic.{◌≢◌}
+use mathlib.Core.Path.{◌≡◌, refl, sym, ◌∙◌, ap}
 use mathlib.Core.Bool.{true, false, not, false≢true}
+use mathlib.Core.Logic.{◌≢◌}
 use mathlib.Core.List.{List}
+use Rattle.std.specs.Option.{option_eq}
+use Rattle.std.specs.Prelude.{Option, None, Some, MatchOption}
 use Prim.Native.Nat.{ℕ, ◌≤◌, ◌<◌}
-use borrow.Author.Tests.{eq-eqb, ne_eqb}
+use borrow.Author.Tests.{ne_eqb, eqb-false, true-eqb, false-eqb, not-true}
 use lib.Dec.{eqb}
 use lib.ListN.{length}
 use Rattle.list_in_table.proofs.Order.{length-list}
@@ -34,13 +36,23 @@ module _ {Z : Sizes} {t : List ℕ} (i : ℕ) (S : Sound Z t) where
   unfolding world_of
   bodies-are l = ap (λ (a : Island). length a.bodies) (island-at Z (extents (tables Z t)) (tables Z t) i l) ∙ length-list S.good.members_wf.rules i l
 
-  pub live-empty : i < (extents (tables Z t)).islands → (members_in Z (tables Z t)).count i ≡ 0 → LiveIs Z t i false
+  -- what the count of its bodies says of an island in use
+  pub live-count : (n : ℕ) → i < (extents (tables Z t)).islands → n ≡ (members_in Z (tables Z t)).count i → LiveIs Z t i (not (eqb n 0))
   unfolding live
-  live-empty l c = record { says = sym (ap not (eq-eqb _ 0 (bodies-are l ∙ c))); lives = λ e. absurd (false≢true e) }
-
-  pub live-some : i < (extents (tables Z t)).islands → (members_in Z (tables Z t)).count i ≢ 0 → LiveIs Z t i true
-  unfolding live
-  live-some l c = record { says = sym (ap not (ne_eqb _ 0 (λ e. c (sym (bodies-are l) ∙ e)))); lives = λ e. record { in_use = l; some = c } }
+  live-count n l e =
+      record {
+        says = ap (λ (k : ℕ). not (eqb k 0)) (e ∙ sym (bodies-are l));
+        lives = λ h. record { in_use = l; some = λ z. eqb-false n 0 (not-true (eqb n 0) h) (e ∙ z) };
+      }
 
   pub lives-true : Lives Z t i → live (world_of Z t) i ≡ true
-  lives-true L = sym (live-some L.in_use L.some).says
+  lives-true L = sym (live-count _ L.in_use refl).says ∙ ap not (ne_eqb _ 0 L.some)
+
+-- ---- what it says of the two words of the pending split that they name the island i, or do not
+pub was-pending : {a b : ℕ} (r : Option ℕ) (i : ℕ) → MatchOption r (a ≢ 1) (λ k. (a ≡ 1) × (k ≡ b)) → true ≡ option_eq eqb r (Some i) → (a ≡ 1) × (b ≡ i)
+was-pending None i m e = absurd (false≢true (sym e))
+was-pending (Some k) i m e = (m.0, sym m.1 ∙ true-eqb k i e)
+
+pub was-another : {a b : ℕ} (r : Option ℕ) (i : ℕ) → MatchOption r (a ≢ 1) (λ k. (a ≡ 1) × (k ≡ b)) → false ≡ option_eq eqb r (Some i) → a ≡ 1 → b ≢ i
+was-another None i m e p q = m p
+was-another (Some k) i m e p q = false-eqb k i e (m.1 ∙ q)

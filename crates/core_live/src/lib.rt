@@ -1,6 +1,8 @@
 // What the core asks of an island's number, on sound tables.
 #![tactic(auto)]
 
+ghost use Rattle.std.specs.Prelude.{◌≡◌, ◌≢◌, length, get_or, MatchOption};
+ghost use Rattle.table_meaning.specs.Layout.{tables, total};
 ghost use Rattle.table_meaning.specs.Sound.{Sound};
 ghost use Rattle.core_laws.specs.Leaves.{Unpended};
 ghost use Rattle.core_live.specs.Live.{LiveIs};
@@ -13,15 +15,20 @@ pub fn is_live(t: &[u32], z: Sizes, i: u32) -> bool
     requires { Sound z t.now }
     ensures { LiveIs z t.now i result }
 {
-    let in_use = table_words::get(t, z, Table::Head, word::ISLANDS_USED);
-    if i >= in_use {
-        return false;
+    i < table_words::get(t, z, Table::Head, word::ISLANDS_USED)
+        && table_words::count(t, z, Table::Members, i) != 0
+}
+
+// The island whose split is pending, where one is.
+pub fn pending(t: &[u32], z: Sizes) -> Option<u32>
+    requires { length t.now ≡ total z }
+    ensures { MatchOption result (get_or (tables z t.now).head 5 0 ≢ 1) (λ i. (get_or (tables z t.now).head 5 0 ≡ 1) × (i ≡ get_or (tables z t.now).head 6 0)) }
+{
+    if table_words::get(t, z, Table::Head, word::IS_PENDING) == 1 {
+        Some(table_words::get(t, z, Table::Head, word::PENDING))
+    } else {
+        None
     }
-    let bodies = table_words::count(t, z, Table::Members, i);
-    if bodies == 0 {
-        return false;
-    }
-    true
 }
 
 // A pending split of the island i is cleared.
@@ -29,13 +36,7 @@ pub fn clear_pending_split_of(t: &mut [u32], z: Sizes, i: u32)
     requires { Sound z t.old }
     ensures { Unpended z i t.old t.new }
 {
-    let pending = table_words::get(t, z, Table::Head, word::IS_PENDING);
-    if pending != 1 {
-        return;
+    if pending(t, z) == Some(i) {
+        table_words::set_all(t, z, Table::Head, word::IS_PENDING, &[0, 0]);
     }
-    let island = table_words::get(t, z, Table::Head, word::PENDING);
-    if island != i {
-        return;
-    }
-    table_words::set_all(t, z, Table::Head, word::IS_PENDING, &[0, 0]);
 }

@@ -1,32 +1,41 @@
+-- `core_ensure::may_join` meets its contract: each of its tests as the definition has it, by the words of the slot.
 use native.Mathlib.Omega.{arith}
 use mathlib.Core.Path.{sym, ◌∙◌}
-use borrow.Author.Tests.{eq-eqb, ne_eqb}
-use Rattle.list_in_table.specs.Rules.{none}
-use Rattle.core_laws.proofs.Names.{named_is}
+use mathlib.Core.Bool.{false≢true}
+use borrow.Author.Tests.{eq-eqb, eqb-true, eqb-false}
+use Rattle.core_laws.proofs.Names.{room-named}
 use Rattle.core_laws.proofs.Found.{join-no, join-fixed, join-disabled, join-home}
 use Rattle.core_ensure.proofs.may_join.Goals as goal
+use Rattle.core_ensure.proofs.may_join.Goals.{then-get-ne1, else-get-ne1}
 
 pub returns-then-not-is_named : goal.returns-then-not-is_named
-returns-then-not-is_named c = sym (join-no c.args.s c.args.g c.requires (sym c.is_named.ensures ∙ c.if-not-is_named.true))
+returns-then-not-is_named c = sym (join-no c.args.h.slot.0 c.args.h.generation c.requires (sym c.is_named.ensures ∙ c.if-not-is_named.true))
 
-pub get-fixed-requires : goal.get-fixed-requires
-get-fixed-requires c =
-    let n = (named_is c.args.z c.args.t.now c.args.s c.args.g (sym c.is_named.ensures ∙ c.if-not-is_named.false)).slot_lt in let m = c.requires.good.slots_le in
-    (c.requires.long, omega arith)
+pub get-requires : goal.get-requires
+get-requires c = (c.requires.long, (let l = room-named _ _ _ _ c.requires (sym c.is_named.ensures ∙ c.if-not-is_named.false) in omega arith))
 
-pub returns-then-fixed-eq1 : goal.returns-then-fixed-eq1
-returns-then-fixed-eq1 c = sym (join-fixed c.args.s c.args.g c.requires (sym c.is_named.ensures ∙ c.if-not-is_named.false) (sym c.get-fixed.ensures.0 ∙ c.if-fixed-eq1.true))
+pub get-requires-then-get-ne1 : goal.get-requires-then-get-ne1
+get-requires-then-get-ne1 c = (c.requires.long, (let l = room-named _ _ _ _ c.requires (sym c.is_named.ensures ∙ c.if-not-is_named.false) in omega arith))
 
-pub get-enabled-requires : goal.get-enabled-requires
-get-enabled-requires c =
-    let n = (named_is c.args.z c.args.t.now c.args.s c.args.g (sym c.is_named.ensures ∙ c.if-not-is_named.false)).slot_lt in let m = c.requires.good.slots_le in
-    (c.requires.long, omega arith)
+pub home-requires : goal.home-requires
+home-requires c = (c.requires.long, room-named _ _ _ _ c.requires (sym c.is_named.ensures ∙ c.if-not-is_named.false))
 
-pub returns-then-enabled-ne1 : goal.returns-then-enabled-ne1
-returns-then-enabled-ne1 c = sym (join-disabled c.args.s c.args.g c.requires (sym c.is_named.ensures ∙ c.if-not-is_named.false) (λ e. c.if-fixed-eq1.false (c.get-fixed.ensures.0 ∙ e)) (λ e. c.if-enabled-ne1.true (c.get-enabled.ensures.0 ∙ e)))
+pub returns-then-get-eq1 : goal.returns-then-get-eq1
+returns-then-get-eq1 c =
+    let n = sym c.is_named.ensures ∙ c.if-not-is_named.false in
+    elim c.if-get-ne1.branch [
+      | then-get-ne1 w ↦
+          let e = eqb-true _ _ (sym w.value-is ∙ c.if-get-eq1.true) in
+          rw c.home.ensures.0 (sym (join-home c.args.h.slot.0 c.args.h.generation c.requires n (λ f. w.if-get-ne1.true (c.get.ensures.0 ∙ f)) (sym w.get-then-get-ne1.ensures.0 ∙ e)))
+      | else-get-ne1 w ↦ let k = sym w.value-is ∙ c.if-get-eq1.true in absurd (false≢true (rw (eq-eqb _ _ w.if-get-ne1.false) at k))
+    ]
 
-pub returns-then-home : goal.returns-then-home
-returns-then-home c = sym (ne_eqb _ none (λ e. c.if-home.true (c.home-home.ensures.0 ∙ e))) ∙ sym (join-home c.args.s c.args.g c.requires (sym c.is_named.ensures ∙ c.if-not-is_named.false) (λ e. c.if-fixed-eq1.false (c.get-fixed.ensures.0 ∙ e)) (sym c.get-enabled.ensures.0 ∙ c.if-enabled-ne1.false))
-
-pub returns : goal.returns
-returns c = sym (eq-eqb _ none (sym c.home-home.ensures.0 ∙ c.if-home.false)) ∙ sym (join-home c.args.s c.args.g c.requires (sym c.is_named.ensures ∙ c.if-not-is_named.false) (λ e. c.if-fixed-eq1.false (c.get-fixed.ensures.0 ∙ e)) (sym c.get-enabled.ensures.0 ∙ c.if-enabled-ne1.false))
+pub returns-else-get-eq1 : goal.returns-else-get-eq1
+returns-else-get-eq1 c =
+    let n = sym c.is_named.ensures ∙ c.if-not-is_named.false in
+    elim c.if-get-ne1.branch [
+      | then-get-ne1 w ↦
+          let e = eqb-false _ _ (sym w.value-is ∙ c.if-get-eq1.false) in
+          c.if-get-eq1.false ∙ sym (join-disabled c.args.h.slot.0 c.args.h.generation c.requires n (λ f. w.if-get-ne1.true (c.get.ensures.0 ∙ f)) (λ d. e (w.get-then-get-ne1.ensures.0 ∙ d)))
+      | else-get-ne1 w ↦ c.if-get-eq1.false ∙ sym (join-fixed c.args.h.slot.0 c.args.h.generation c.requires n (sym c.get.ensures.0 ∙ w.if-get-ne1.false))
+    ]

@@ -1,13 +1,10 @@
 use native.Mathlib.Omega.{arith}
-use mathlib.Core.Path.{sym, ◌∙◌}
-use Rattle.core_live.proofs.Live.{live-far, live-empty, live-some}
+use borrow.Author.Tests.{le-ltb}
+use Rattle.core_live.proofs.Live.{live-far, live-count}
 use Rattle.core_live.proofs.is_live.Goals as goal
 
-pub returns-then-i-in_use : goal.returns-then-i-in_use
-returns-then-i-in_use c = live-far c.args.i c.requires (let e = c.get-in_use.ensures.0 in omega (arith, c.if-i-in_use.true))
+pub returns-then-i-get : goal.returns-then-i-get
+returns-then-i-get c = live-count c.args.i c.requires c.count.result (omega (arith, c.get.ensures.0, c.if-i-get.true)) c.count.ensures.0
 
-pub returns-then-bodies-eq0 : goal.returns-then-bodies-eq0
-returns-then-bodies-eq0 c = live-empty c.args.i c.requires (let e = c.get-in_use.ensures.0 in omega (arith, c.if-i-in_use.false)) (sym c.count-bodies.ensures.0 ∙ c.if-bodies-eq0.true)
-
-pub returns : goal.returns
-returns c = live-some c.args.i c.requires (let e = c.get-in_use.ensures.0 in omega (arith, c.if-i-in_use.false)) (λ e. c.if-bodies-eq0.false (c.count-bodies.ensures.0 ∙ e))
+pub returns-else-i-get : goal.returns-else-i-get
+returns-else-i-get c = rw (le-ltb c.args.i c.get.result c.if-i-get.false) (live-far c.args.i c.requires (omega (arith, c.get.ensures.0, c.if-i-get.false)))

@@ -38,6 +38,7 @@ pub fn node_at(t: &[u32], z: Sizes, i: u32, h: Handle) -> Option<u32>
     if place == NONE { None } else { Some(place) }
 }
 
+// The three moves differ in what they promise of the state (a contact link, a joint link, a body), so each is a function of its own.
 // The contact link e goes to the end of the list of the island to.
 pub fn move_contact(t: &mut [u32], z: Sizes, e: u32, to: u32)
     requires { ContactGoes z to t.old e }

@@ -1,5 +1,5 @@
 -- Well formed tables, part by part: what each function of the audit answers.
-use Rattle.std.specs.Prelude.{◌≡◌, ◌≢◌, List, ℕ, ◌+◌, ◌*◌, ◌≤◌, ◌<◌, get_or}
+use Rattle.std.specs.Prelude.{◌≡◌, ◌≢◌, List, ℕ, ◌*◌, ◌≤◌, ◌<◌, get_or}
 use Rattle.list_in_table.specs.Rules.{none}
 use Rattle.list_in_table.specs.Table.{Wf}
 use Rattle.def_kinds.specs.declared.Sizes.{Sizes}
@@ -7,7 +7,6 @@ use Rattle.table_meaning.specs.Layout.{Tables, extents, scan_in}
 use Rattle.table_meaning.specs.Rule.{HeadRule}
 use Rattle.table_meaning.specs.Sound.{SlotAt, IslandAt, SeenAt, EdgeAt, JointAt, SameKey}
 use Rattle.table_audit.specs.declared.Used.{Used}
-use Rattle.table_audit.specs.declared.KeyWords.{KeyWords}
 
 -- so much is in use
 pub record Extended (T : Tables) (used : Used) : Type 0 where
@@ -42,13 +41,6 @@ pub record Ruled (Z : Sizes) (T : Tables) (used : Used) : Type 0 where
   pub seen : (i : ℕ) → i < used.islands → SeenAt Z T i
   pub edge : (k : ℕ) → k < used.edges → EdgeAt Z T k
   pub joint : (p : ℕ) → p < used.joints → JointAt Z T p
-
--- the key of the place p, word for word
-pub record KeyIs (keys : List ℕ) (p : ℕ) (key : KeyWords) : Type 0 where
-  pub kind_is : key.kind ≡ get_or keys (8 * p) 0
-  pub first_is : key.first ≡ get_or keys (8 * p + 1) 0
-  pub second_is : key.second ≡ get_or keys (8 * p + 2) 0
-  pub third_is : key.third ≡ get_or keys (8 * p + 3) 0
 
 abbrev pub HeadAt : Sizes → Tables → Type 0
 HeadAt Z T = HeadRule (get_or T.head 5 0) (get_or T.head 6 0) (get_or T.head 8 0) ((scan_in Z T).count 0)

@@ -1,9 +1,9 @@
 -- What C and Rust programs see of a call: numbers.
-use Rattle.std.specs.Prelude.{◌≡◌, Bool, not, List, ℕ, ◌+◌, ◌*◌, eqb}
-use Rattle.def_kinds.specs.Answers.{Answer}
-use Rattle.def_kinds.specs.declared.IslandAnswer.{IslandAnswer}
-use Rattle.def_kinds.specs.declared.BidAnswer.{BidAnswer}
-use Rattle.def_kinds.specs.declared.ListAnswer.{ListAnswer}
+use Rattle.std.specs.Prelude.{◌≡◌, Bool, not, List, ℕ, ◌+◌, ◌*◌, eqb, Option, None, Some, Result, Ok, Err}
+use Rattle.std.specs.Result.{result_unwrap_or}
+use Rattle.def_kinds.specs.declared.Island.{Island}
+use Rattle.def_kinds.specs.declared.Refusal.{Refusal}
+use Rattle.def_kinds.specs.Answers.{Answer, answer_of}
 use Rattle.def_kinds.specs.Number.{number, rig}
 use Rattle.def_state.specs.World.{World, Step}
 use Rattle.table_meaning.specs.Does.{Called, Asks, Reset}
@@ -26,11 +26,27 @@ ToldReset t r t' = (a : Answer) × (r ≡ number a) × Reset rig t a t'
 abbrev pub packed : (answer value : ℕ) → ℕ
 packed answer value = answer * 4294967296 + value
 
-abbrev pub ToldIsland : (f : World → IslandAnswer) (t : List ℕ) (r : ℕ) → Type 0
-ToldIsland f t r = (a : IslandAnswer) × (r ≡ packed (number a.answer) a.island.0) × Asks rig f refused_island t a
+-- the number of an island; none: the number of no island
+abbrev pub island_word : Option Island → ℕ
+island_word None = 4294967295
+island_word (Some i) = i.0
 
-abbrev pub ToldBid : (f : World → BidAnswer) (t : List ℕ) (r : ℕ) → Type 0
-ToldBid f t r = (a : BidAnswer) × (r ≡ packed (number a.answer) (bit_of a.yes)) × Asks rig f refused_bid t a
+-- the value that is told beside the answer to "whose island": a refusal has the number of no island
+abbrev pub island_told : Result (Option Island) Refusal → ℕ
+island_told (Ok i) = island_word i
+island_told (Err refusal) = 4294967295
 
+abbrev pub ToldIsland : (f : World → Result (Option Island) Refusal) (t : List ℕ) (r : ℕ) → Type 0
+ToldIsland f t r = (a : Result (Option Island) Refusal) × (r ≡ packed (number (answer_of a)) (island_told a)) × Asks rig f refused_island t a
+
+-- beside the answer to "may it bid": a refusal has 0
+abbrev pub bid_told : Result Bool Refusal → ℕ
+bid_told (Ok bids) = bit_of bids
+bid_told (Err refusal) = 0
+
+abbrev pub ToldBid : (f : World → Result Bool Refusal) (t : List ℕ) (r : ℕ) → Type 0
+ToldBid f t r = (a : Result Bool Refusal) × (r ≡ packed (number (answer_of a)) (bid_told a)) × Asks rig f refused_bid t a
+
+-- beside the answer of finish: the list's length, and 0 where it is refused
 abbrev pub ToldList : (t out : List ℕ) (r : ℕ) (t' out' : List ℕ) → Type 0
-ToldList t out r t' out' = (a : ListAnswer) × (r ≡ packed (number a.answer) a.length) × Finish rig t out a.answer a.length t' out'
+ToldList t out r t' out' = (a : Result ℕ Refusal) × (r ≡ packed (number (answer_of a)) (result_unwrap_or a 0)) × Finish rig t out (answer_of a) (result_unwrap_or a 0) t' out'

@@ -4,9 +4,11 @@
 #![tactic(auto)]
 
 ghost use Rattle.std.specs.Prelude.{◌≡◌, ◌/◌, ◌%◌, length};
+ghost use Rattle.std.specs.Result.{result_unwrap_or};
+ghost use Rattle.def_kinds.specs.Answers.{answer_of};
 ghost use Rattle.def_kinds.specs.Number.{number, rig};
 ghost use Rattle.def_state.specs.World.{impulse as impulse_key, chain as chain_key};
-ghost use Rattle.def_state.specs.Bodies.{put, flags, retire, island as island_of};
+ghost use Rattle.def_state.specs.Bodies.{put, flags as flags_step, retire, island as island_of};
 ghost use Rattle.def_state.specs.Membership.{ensure, remove};
 ghost use Rattle.def_state.specs.Links.{link_contact, unlink_contact, contact_edge_removed, link_joint, unlink_joint};
 ghost use Rattle.def_state.specs.Resolver.{resolve_removals};
@@ -16,9 +18,9 @@ ghost use Rattle.core_laws.specs.Steps.{handle};
 ghost use Rattle.def_state.specs.Split.{split_island_now, schedule_split, run_pending_split};
 ghost use Rattle.def_state.specs.Scan.{begin_sleep_scan, observe_body_for_sleep, mark_island_sleeping, wake_island};
 ghost use Rattle.host_calls.specs.Refusal.{may_bid};
-ghost use Rattle.ashwoodrung.specs.Told.{is_set, packed, Told, ToldReset, ToldIsland, ToldBid, ToldList};
+ghost use Rattle.ashwoodrung.specs.Told.{is_set, packed, island_word, Told, ToldReset, ToldIsland, ToldBid, ToldList};
 
-use def_kinds::{Answer, Edge, Handle, Island, JointKey, Slot};
+use def_kinds::{Edge, Flags, Handle, Island, JointKey, NONE, Refusal, Slot, number};
 
 fn is_set(x: u32) -> bool
     ensures { result ≡ is_set x }
@@ -26,17 +28,41 @@ fn is_set(x: u32) -> bool
     x != 0
 }
 
-fn both(answer: Answer, value: u32) -> u64
-    ensures { result ≡ packed (number answer) value }
+// An answer and its value in one number of 64 bits; a refusal has the value `otherwise`.
+fn both(answer: Result<u32, Refusal>, otherwise: u32) -> u64
+    ensures { result ≡ packed (number (answer_of answer)) (result_unwrap_or answer otherwise) }
 {
-    (answer.number() as u64) * 4294967296 + (value as u64)
+    let (number, value) = match answer {
+        Ok(value) => (0, value),
+        Err(refusal) => (u32::from(refusal), otherwise),
+    };
+    u64::from(number) * 4294967296 + u64::from(value)
+}
+
+// The number of an island, or that of none.
+fn island_word(island: Option<Island>) -> u32
+    ensures { result ≡ island_word island }
+{
+    island.map_or(NONE, |i| i.0)
+}
+
+fn flags_of(fixed: u32, enabled: u32, sleeping: u32) -> Flags
+    ensures { (result.fixed ≡ is_set fixed) × (result.enabled ≡ is_set enabled) × (result.sleeping ≡ is_set sleeping) }
+{
+    let fixed = is_set(fixed);
+    let enabled = is_set(enabled);
+    let sleeping = is_set(sleeping);
+    Flags {
+        fixed,
+        enabled,
+        sleeping,
+    }
 }
 
 pub fn ashwoodrung_reset(t: &mut [u32]) -> u32
     ensures { ToldReset t.old result t.new }
 {
-    let a = host_calls::reset(t);
-    a.number()
+    number(host_calls::reset(t))
 }
 
 pub fn ashwoodrung_put(
@@ -49,15 +75,8 @@ pub fn ashwoodrung_put(
 ) -> u32
     ensures { Told (put rig (handle slot generation) (is_set fixed) (is_set enabled) (is_set sleeping)) t.old result t.new }
 {
-    let f = is_set(fixed);
-    let e = is_set(enabled);
-    let z = is_set(sleeping);
-    let h = Handle {
-        slot: Slot(slot),
-        generation,
-    };
-    let a = host_calls::put(t, h, f, e, z);
-    a.number()
+    let h = Handle::new(Slot(slot), generation);
+    number(host_calls::put(t, h, flags_of(fixed, enabled, sleeping)))
 }
 
 pub fn ashwoodrung_flags(
@@ -68,63 +87,38 @@ pub fn ashwoodrung_flags(
     enabled: u32,
     sleeping: u32,
 ) -> u32
-    ensures { Told (flags (handle slot generation) (is_set fixed) (is_set enabled) (is_set sleeping)) t.old result t.new }
+    ensures { Told (flags_step (handle slot generation) (is_set fixed) (is_set enabled) (is_set sleeping)) t.old result t.new }
 {
-    let f = is_set(fixed);
-    let e = is_set(enabled);
-    let z = is_set(sleeping);
-    let h = Handle {
-        slot: Slot(slot),
-        generation,
-    };
-    let a = host_calls::flags(t, h, f, e, z);
-    a.number()
+    let h = Handle::new(Slot(slot), generation);
+    number(host_calls::flags(t, h, flags_of(fixed, enabled, sleeping)))
 }
 
 pub fn ashwoodrung_ensure(t: &mut [u32], slot: u32, generation: u32) -> u32
     ensures { Told (ensure (handle slot generation)) t.old result t.new }
 {
-    let h = Handle {
-        slot: Slot(slot),
-        generation,
-    };
-    let a = host_calls::ensure(t, h);
-    a.number()
+    let h = Handle::new(Slot(slot), generation);
+    number(host_calls::ensure(t, h))
 }
 
 pub fn ashwoodrung_remove(t: &mut [u32], slot: u32, generation: u32) -> u32
     ensures { Told (remove (handle slot generation)) t.old result t.new }
 {
-    let h = Handle {
-        slot: Slot(slot),
-        generation,
-    };
-    let a = host_calls::remove(t, h);
-    a.number()
+    let h = Handle::new(Slot(slot), generation);
+    number(host_calls::remove(t, h))
 }
 
 pub fn ashwoodrung_retire(t: &mut [u32], slot: u32, generation: u32) -> u32
     ensures { Told (retire (handle slot generation)) t.old result t.new }
 {
-    let h = Handle {
-        slot: Slot(slot),
-        generation,
-    };
-    let a = host_calls::retire(t, h);
-    a.number()
+    let h = Handle::new(Slot(slot), generation);
+    number(host_calls::retire(t, h))
 }
 
 pub fn ashwoodrung_island(t: &[u32], slot: u32, generation: u32) -> u64
     ensures { ToldIsland (island_of (handle slot generation)) t.now result }
 {
-    let h = Handle {
-        slot: Slot(slot),
-        generation,
-    };
-    let a = host_calls::island(t, h);
-    let answer = a.answer;
-    let island = a.island;
-    both(answer, island.0)
+    let h = Handle::new(Slot(slot), generation);
+    both(host_calls::island(t, h).map(island_word), NONE)
 }
 
 pub fn ashwoodrung_contact(
@@ -137,30 +131,21 @@ pub fn ashwoodrung_contact(
 ) -> u32
     ensures { Told (link_contact rig edge (handle slot1 generation1) (handle slot2 generation2)) t.old result t.new }
 {
-    let h1 = Handle {
-        slot: Slot(slot1),
-        generation: generation1,
-    };
-    let h2 = Handle {
-        slot: Slot(slot2),
-        generation: generation2,
-    };
-    let a = host_calls::contact(t, Edge(edge), h1, h2);
-    a.number()
+    let first = Handle::new(Slot(slot1), generation1);
+    let second = Handle::new(Slot(slot2), generation2);
+    number(host_calls::contact(t, Edge(edge), first, second))
 }
 
 pub fn ashwoodrung_uncontact(t: &mut [u32], edge: u32) -> u32
     ensures { Told (unlink_contact rig edge) t.old result t.new }
 {
-    let a = host_calls::uncontact(t, Edge(edge));
-    a.number()
+    number(host_calls::uncontact(t, Edge(edge)))
 }
 
 pub fn ashwoodrung_renumber(t: &mut [u32], removed: u32, last: u32) -> u32
     ensures { Told (contact_edge_removed removed last) t.old result t.new }
 {
-    let a = host_calls::renumber(t, Edge(removed), Edge(last));
-    a.number()
+    number(host_calls::renumber(t, Edge(removed), Edge(last)))
 }
 
 pub fn ashwoodrung_joint_impulse(
@@ -174,17 +159,10 @@ pub fn ashwoodrung_joint_impulse(
 ) -> u32
     ensures { Told (link_joint rig (impulse_key index generation) (handle slot1 generation1) (handle slot2 generation2)) t.old result t.new }
 {
-    let h1 = Handle {
-        slot: Slot(slot1),
-        generation: generation1,
-    };
-    let h2 = Handle {
-        slot: Slot(slot2),
-        generation: generation2,
-    };
+    let first = Handle::new(Slot(slot1), generation1);
+    let second = Handle::new(Slot(slot2), generation2);
     let key = JointKey::Impulse { index, generation };
-    let a = host_calls::joint(t, key, h1, h2);
-    a.number()
+    number(host_calls::joint(t, key, first, second))
 }
 
 pub fn ashwoodrung_joint_chain(
@@ -198,115 +176,89 @@ pub fn ashwoodrung_joint_chain(
 ) -> u32
     ensures { Told (link_joint rig (chain_key (multibody / 4294967296) (multibody % 4294967296) ordinal) (handle slot1 generation1) (handle slot2 generation2)) t.old result t.new }
 {
-    let h1 = Handle {
-        slot: Slot(slot1),
-        generation: generation1,
-    };
-    let h2 = Handle {
-        slot: Slot(slot2),
-        generation: generation2,
-    };
+    let first = Handle::new(Slot(slot1), generation1);
+    let second = Handle::new(Slot(slot2), generation2);
     let key = JointKey::Chain { multibody, ordinal };
-    let a = host_calls::joint(t, key, h1, h2);
-    a.number()
+    number(host_calls::joint(t, key, first, second))
 }
 
 pub fn ashwoodrung_unjoint_impulse(t: &mut [u32], index: u32, generation: u32) -> u32
     ensures { Told (unlink_joint rig (impulse_key index generation)) t.old result t.new }
 {
     let key = JointKey::Impulse { index, generation };
-    let a = host_calls::unjoint(t, key);
-    a.number()
+    number(host_calls::unjoint(t, key))
 }
 
 pub fn ashwoodrung_unjoint_chain(t: &mut [u32], multibody: u64, ordinal: u32) -> u32
     ensures { Told (unlink_joint rig (chain_key (multibody / 4294967296) (multibody % 4294967296) ordinal)) t.old result t.new }
 {
     let key = JointKey::Chain { multibody, ordinal };
-    let a = host_calls::unjoint(t, key);
-    a.number()
+    number(host_calls::unjoint(t, key))
 }
 
 // The list has two words a handle, its slot and its generation.
 pub fn ashwoodrung_chain(t: &mut [u32], multibody: u64, list: &[u32]) -> u32
     ensures { Told (refresh_multibody_chain rig (multibody / 4294967296) (multibody % 4294967296) (handles_from list.now 0 (length list.now / 2))) t.old result t.new }
 {
-    let a = host_calls::chain(t, multibody, list);
-    a.number()
+    number(host_calls::chain(t, multibody, list))
 }
 
 pub fn ashwoodrung_resolve(t: &mut [u32]) -> u32
     ensures { Told (resolve_removals) t.old result t.new }
 {
-    let a = host_calls::resolve(t);
-    a.number()
+    number(host_calls::resolve(t))
 }
 
 pub fn ashwoodrung_split(t: &mut [u32], island: u32) -> u32
     ensures { Told (split_island_now island) t.old result t.new }
 {
-    let a = host_calls::split(t, Island(island));
-    a.number()
+    number(host_calls::split(t, Island(island)))
 }
 
 pub fn ashwoodrung_schedule(t: &mut [u32], island: u32) -> u32
     ensures { Told (schedule_split island) t.old result t.new }
 {
-    let a = host_calls::schedule(t, Island(island));
-    a.number()
+    number(host_calls::schedule(t, Island(island)))
 }
 
 pub fn ashwoodrung_run(t: &mut [u32]) -> u32
     ensures { Told run_pending_split t.old result t.new }
 {
-    let a = host_calls::run(t);
-    a.number()
+    number(host_calls::run(t))
 }
 
 pub fn ashwoodrung_may_bid(t: &[u32], island: u32) -> u64
     ensures { ToldBid (may_bid island) t.now result }
 {
-    let a = host_calls::may_bid(t, Island(island));
-    let answer = a.answer;
-    let yes = a.yes;
-    let y = core_body::bit(yes);
-    both(answer, y)
+    both(host_calls::may_bid(t, Island(island)).map(u32::from), 0)
 }
 
 pub fn ashwoodrung_begin(t: &mut [u32]) -> u32
     ensures { Told begin_sleep_scan t.old result t.new }
 {
-    let a = host_calls::begin(t);
-    a.number()
+    number(host_calls::begin(t))
 }
 
 pub fn ashwoodrung_observe(t: &mut [u32], island: u32, eligible: u32) -> u32
     ensures { Told (observe_body_for_sleep island (is_set eligible)) t.old result t.new }
 {
-    let e = is_set(eligible);
-    let a = host_calls::observe(t, Island(island), e);
-    a.number()
+    number(host_calls::observe(t, Island(island), is_set(eligible)))
 }
 
 pub fn ashwoodrung_finish(t: &mut [u32], out: &mut [u32]) -> u64
     ensures { ToldList t.old out.old result t.new out.new }
 {
-    let a = host_calls::finish(t, out);
-    let answer = a.answer;
-    let length = a.length;
-    both(answer, length)
+    both(host_calls::finish(t, out), 0)
 }
 
 pub fn ashwoodrung_sleep(t: &mut [u32], island: u32) -> u32
     ensures { Told (mark_island_sleeping island) t.old result t.new }
 {
-    let a = host_calls::sleep(t, Island(island));
-    a.number()
+    number(host_calls::sleep(t, Island(island)))
 }
 
 pub fn ashwoodrung_wake(t: &mut [u32], island: u32) -> u32
     ensures { Told (wake_island island) t.old result t.new }
 {
-    let a = host_calls::wake(t, Island(island));
-    a.number()
+    number(host_calls::wake(t, Island(island)))
 }

@@ -18,7 +18,7 @@ use Rattle.table_meaning.specs.Decode.{world_of}
 use Rattle.table_meaning.specs.Sound.{Sound}
 use Rattle.core_laws.specs.Steps.{Steps}
 use Rattle.core_laws.proofs.Then.{refused, does-as, does-then}
-use Rattle.core_scan.specs.Scanning.{forget, stamped, ScanIs, Fitting, Forgotten}
+use Rattle.core_scan.specs.Scanning.{forget, stamped, ScanIs, Forgotten}
 use Rattle.core_finish.specs.Restful.{restful}
 use Rattle.core_finish.specs.Listing.{listed_of, Finishes}
 

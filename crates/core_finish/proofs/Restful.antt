@@ -5,7 +5,6 @@ use mathlib.Core.Bool.{Bool, true, false, ◌&&◌, ◌||◌, not}
 use mathlib.Core.List.{List, [], ◌∷◌, ◌++◌, map, map-append, append_assoc, append-nil}
 use Prim.Native.Nat.{ℕ, zero, suc, ◌+◌, ◌-◌, ◌*◌, ◌≤◌, ◌<◌}
 use native.Mathlib.Omega.{arith}
-use borrow.Author.Tests.{eq-eqb, ne_eqb, le-leb, lt-leb}
 use lib.Dec.{eqb, leb}
 use lib.ListN.{length, get_or, set, drop, length-append, length-set, length-map}
 use Rattle.list_in_table.specs.Rules.{none, View, Rules, walk, list_of}
@@ -23,27 +22,8 @@ use Rattle.core_finish.specs.Restful.{restful, restful_to, Wrote}
 use Rattle.core_finish.proofs.Lists.{sleepables-le, sleepables-yes, sleepables-no}
 
 -- ---- may the island i sleep, by its words
-abbrev words_rest : (fit bodies asleep count : ℕ) → Bool
+abbrev pub words_rest : (fit bodies asleep count : ℕ) → Bool
 words_rest f c a r = flag f && (not (eqb c 0) && (not (flag a) && (eqb r 0 || leb c 1)))
-
-module _ (f c a r : ℕ) where
-  rest-unfit : f ≢ 1 → words_rest f c a r ≡ false
-  rest-unfit d = rw (ne_eqb f 1 d)
-
-  rest-dead : f ≡ 1 → c ≡ 0 → words_rest f c a r ≡ false
-  rest-dead p q = rw (eq-eqb f 1 p, eq-eqb c 0 q)
-
-  rest-asleep : f ≡ 1 → c ≢ 0 → a ≡ 1 → words_rest f c a r ≡ false
-  rest-asleep p q s = rw (eq-eqb f 1 p, ne_eqb c 0 q, eq-eqb a 1 s)
-
-  rest-whole : f ≡ 1 → c ≢ 0 → a ≢ 1 → r ≡ 0 → words_rest f c a r ≡ true
-  rest-whole p q s u = rw (eq-eqb f 1 p, ne_eqb c 0 q, ne_eqb a 1 s, eq-eqb r 0 u)
-
-  rest-many : f ≡ 1 → c ≢ 0 → a ≢ 1 → r ≢ 0 → 1 < c → words_rest f c a r ≡ false
-  rest-many p q s u v = rw (eq-eqb f 1 p, ne_eqb c 0 q, ne_eqb a 1 s, ne_eqb r 0 u, lt-leb c 1 v)
-
-  rest-one : f ≡ 1 → c ≢ 0 → a ≢ 1 → r ≢ 0 → c ≤ 1 → words_rest f c a r ≡ true
-  rest-one p q s u v = rw (eq-eqb f 1 p, ne_eqb c 0 q, ne_eqb a 1 s, ne_eqb r 0 u, le-leb c 1 v)
 
 module _ {Z : Sizes} {t : List ℕ} (i : ℕ) (S : Sound Z t) (il : i < (extents (tables Z t)).islands) where
   abbrev T : Tables
@@ -71,23 +51,8 @@ module _ {Z : Sizes} {t : List ℕ} (i : ℕ) (S : Sound Z t) (il : i < (extents
       (island-at Z (extents T) T i il)
       ∙ ap (λ (n : ℕ). flag fit && (not (eqb n 0) && (not (flag asleep) && (eqb count 0 || leb n 1)))) (length-list S.good.members_wf.rules i il)
 
-  pub may-unfit : fit ≢ 1 → false ≡ may
-  may-unfit d = sym (may-is ∙ rest-unfit fit bodies asleep count d)
-
-  pub may-dead : fit ≡ 1 → bodies ≡ 0 → false ≡ may
-  may-dead p q = sym (may-is ∙ rest-dead fit bodies asleep count p q)
-
-  pub may-asleep : fit ≡ 1 → bodies ≢ 0 → asleep ≡ 1 → false ≡ may
-  may-asleep p q s = sym (may-is ∙ rest-asleep fit bodies asleep count p q s)
-
-  pub may-whole : fit ≡ 1 → bodies ≢ 0 → asleep ≢ 1 → count ≡ 0 → true ≡ may
-  may-whole p q s u = sym (may-is ∙ rest-whole fit bodies asleep count p q s u)
-
-  pub may-many : fit ≡ 1 → bodies ≢ 0 → asleep ≢ 1 → count ≢ 0 → 1 < bodies → false ≡ may
-  may-many p q s u v = sym (may-is ∙ rest-many fit bodies asleep count p q s u v)
-
-  pub may-one : fit ≡ 1 → bodies ≢ 0 → asleep ≢ 1 → count ≢ 0 → bodies ≤ 1 → true ≡ may
-  may-one p q s u v = sym (may-is ∙ rest-one fit bodies asleep count p q s u v)
+  pub may-words : (f c a r : ℕ) → f ≡ fit → c ≡ bodies → a ≡ asleep → r ≡ count → may ≡ words_rest f c a r
+  may-words f c a r p q u v = rw (p, q, u, v) may-is
 
 -- ---- the walk: e is the k-th of the scan's list
 pub record Stands (Z : Sizes) (t : List ℕ) (k e : ℕ) : Type 0 where
@@ -166,6 +131,10 @@ counted-yes Z t k e found d h q =
 pub counted-no : (Z : Sizes) (t : List ℕ) (k e found : ℕ) → k ≢ 0 → sleepable (world_of Z t) (observed_at (tables Z t).fit e) ≡ false
     → length (restful_to Z t k e) + found ≡ length (restful Z t) → length (restful_to Z t (k - 1) ((scan_in Z (tables Z t)).prev e)) + found ≡ length (restful Z t)
 counted-no Z t k e found d h q = let a = ap length (restful-no Z t k e d h) in omega arith
+
+-- how many are left after one more turn
+pub turn-less : (n k : ℕ) → n - (k + 1) ≡ n - k - 1
+turn-less n k = omega arith
 
 -- ---- written: those up to e are to come, at out[0] to out[j - 1], and behind them all is as it will be
 pub record Written (Z : Sizes) (t out₀ : List ℕ) (k e j : ℕ) (out : List ℕ) : Type 0 where

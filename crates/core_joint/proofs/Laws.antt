@@ -1,40 +1,35 @@
--- A linked place with a key: its two tests; the loop that looks for it.
-use mathlib.Core.Path.{◌≡◌, sym, ◌∙◌}
-use mathlib.Core.Logic.{inl, inr, ◌≢◌}
-use mathlib.Core.Bool.{Bool, true, false, not, false≢true}
+-- What the search for a linked place with a key found; whether a link's ends are one body.
+use mathlib.Core.Path.{◌≡◌, sym, subst}
+use mathlib.Core.Bool.{Bool, ◌&&◌}
+use mathlib.Core.List.{List}
+use lib.Dec.{eqb}
+use lib.ListN.{get_or}
 use Prim.Native.Nat.{ℕ, ◌+◌, ◌≤◌, ◌<◌}
 use native.Mathlib.Omega.{arith}
-use borrow.Author.Count.{below_none, below_more}
-use borrow.Author.Tests.{not-true, not-false}
-use Rattle.list_in_table.specs.Rules.{none, Is}
-use Rattle.list_audit.proofs.Laws.{is-no, is-yes}
+use Rattle.std.specs.declared.option.Option.{Option}
+use Rattle.std.specs.declared.option.Option.TheVariants.{None, Some}
+use Rattle.std.specs.Option.{MatchOption}
+use Rattle.def_kinds.specs.declared.JointKey.{JointKey}
 use Rattle.def_kinds.specs.declared.Sizes.{Sizes}
-use Rattle.table_meaning.specs.Layout.{Tables, extents, joints_in}
-use Rattle.core_laws.specs.Places.{HasKey, LinkedAs, Finds}
+use Rattle.def_state.specs.Links.{same_handle}
+use Rattle.table_meaning.specs.Decode.{handle_at}
+use Rattle.table_meaning.specs.declared.KeyWords.{KeyWords}
+use Rattle.table_meaning.specs.Keys.{words_of}
+use Rattle.table_meaning.specs.Layout.{Tables, extents}
+use Rattle.core_laws.specs.Places.{LinkedAs, PlaceHas, NoPlaceHas}
 
--- no place below p is linked with the key
-abbrev pub Passed : (Z : Sizes) (T : Tables) (kind a b c p n : ℕ) → Type 0
-Passed Z T kind a b c p n = (p ≤ n) × ((k : ℕ) → k < p → LinkedAs Z T kind a b c k → ⊥)
+-- the place p is linked, with the key of these words
+abbrev Linked : Sizes → Tables → KeyWords → ℕ → Type 0
+Linked Z T w p = LinkedAs Z T w.kind w.first w.second w.third p
 
-module _ {Z : Sizes} {T : Tables} {kind a b c : ℕ} where
-  module _ {p : ℕ} {r : Bool} (i : Is r (HasKey T.keys p kind a b c)) where
-    pub keyed-other : not r ≡ true → Is false (LinkedAs Z T kind a b c p)
-    keyed-other e = is-no (λ k. false≢true (sym (not-true r e) ∙ i.1 k.key))
+pub placed : (Z : Sizes) (T : Tables) (key : JointKey) {w : KeyWords} {n : ℕ} → w ≡ words_of key → n ≡ (extents T).joints → (r : Option ℕ)
+    → MatchOption r ((k : ℕ) → 0 ≤ k → k < n → Linked Z T w k → ⊥) (λ p. (0 ≤ p) × (p < n) × Linked Z T w p × ((k : ℕ) → 0 ≤ k → k < p → Linked Z T w k → ⊥))
+    → MatchOption r (NoPlaceHas Z T key) (PlaceHas Z T key)
+placed Z T key e l None h = λ k kl a. h k (omega arith) (omega arith) (subst (λ (x : KeyWords). Linked Z T x k) (sym e) a)
+placed Z T key e l (Some p) h = record { place_lt = omega (arith, h.1); keyed = subst (λ (x : KeyWords). Linked Z T x p) e h.2 }
 
-    pub keyed-unlinked : (joints_in Z T).home p ≡ none → Is false (LinkedAs Z T kind a b c p)
-    keyed-unlinked e = is-no (λ k. k.linked e)
-
-    pub keyed-yes : not r ≡ false → (joints_in Z T).home p ≢ none → Is true (LinkedAs Z T kind a b c p)
-    keyed-yes e h = is-yes (record { linked = h; key = i.0 (not-false r e) })
-
-  pub none_passed : (n : ℕ) → Passed Z T kind a b c 0 n
-  none_passed n = (omega arith, below_none (λ k. LinkedAs Z T kind a b c k → ⊥))
-
-  pub one_more : {p n : ℕ} {r : Bool} → Passed Z T kind a b c p n → p < n → Is r (LinkedAs Z T kind a b c p) → r ≡ false → Passed Z T kind a b c (p + 1) n
-  one_more {p} o l i e = (omega arith, below_more (λ k. LinkedAs Z T kind a b c k → ⊥) p o.1 (λ k. false≢true (sym e ∙ i.1 k)))
-
-  pub finds : {p n : ℕ} {r : Bool} → n ≡ (extents T).joints → p < n → Is r (LinkedAs Z T kind a b c p) → r ≡ true → Finds Z T kind a b c p
-  finds q l i e = inr (record { place_lt = omega arith; keyed = i.0 e })
-
-  pub finds-none : {p n r : ℕ} → r ≡ none → n ≡ (extents T).joints → Passed Z T kind a b c p n → n ≤ p → Finds Z T kind a b c r
-  finds-none e q o l = inl (e, (λ k kl h. o.1 k (omega arith) h))
+-- the handles at j and k are one body where the words that were read are
+pub ends-are : (x : List ℕ) (j k : ℕ) {r : Bool} (a b c d : ℕ) → (a ≡ get_or x j 0) × (b ≡ get_or x (j + 1) 0) → (c ≡ get_or x k 0) × (d ≡ get_or x (k + 1) 0) → r ≡ (eqb a c && eqb b d)
+    → same_handle (handle_at x j) (handle_at x k) ≡ r
+unfolding same_handle
+ends-are x j k a b c d p q e = rw (sym p.0, sym p.1, sym q.0, sym q.1) (sym e)

@@ -2,72 +2,41 @@
 #![tactic(auto)]
 
 ghost use Rattle.std.specs.Prelude.{◌≡◌, ◌≢◌, ℕ, ◌+◌, ◌*◌, ◌<◌, ◌≤◌, length, get_or};
+ghost use Rattle.std.specs.Option.{MatchOption};
 ghost use Rattle.list_in_table.specs.Rules.{none, Is};
-ghost use Rattle.def_state.specs.Links.{same_handle, joint_room, unlink_joint};
+ghost use Rattle.def_state.specs.Links.{joint_room, unlink_joint};
+ghost use Rattle.table_meaning.specs.Keys.{key_is};
 ghost use Rattle.table_meaning.specs.Layout.{tables, total, extents, members_in, joints_in, spare_in};
-ghost use Rattle.table_meaning.specs.Decode.{handle_at, key_of, world_of};
+ghost use Rattle.table_meaning.specs.Decode.{world_of};
 ghost use Rattle.table_meaning.specs.Sound.{Sound};
 ghost use Rattle.table_meaning.specs.Does.{Does};
 ghost use Rattle.core_laws.specs.Steps.{handle, Steps};
-ghost use Rattle.core_laws.specs.Linking.{journalled, place_ready, joint_push};
-ghost use Rattle.core_laws.specs.Places.{KeyRule, HasKey, LinkedAs, Unlinked, Finds, grow_place};
+ghost use Rattle.core_laws.specs.Linking.{place_ready, joint_push};
+ghost use Rattle.core_laws.specs.Places.{LinkedAs, PlaceHas, NoPlaceHas, grow_place};
 ghost use Rattle.core_laws.specs.Loose.{Loosely, JointGone};
 
-use def_kinds::{Answer, NONE, Outcome, Refusal, Sizes};
-use table_meaning::{Table, word};
+use def_kinds::{Answer, Handle, JointKey, NONE, Outcome, Refusal, Sizes};
+use table_meaning::{KeyWords, Table, word};
 
-// ---- which place has a key: four words (kind, a, b, c)
+// ---- which place has a key
 
-// Has the place p these key words?
-fn has_key(t: &[u32], z: Sizes, p: u32, kind: u32, a: u32, b: u32, c: u32) -> bool
+// Is the place p linked, with the key of these words?
+fn is_keyed(t: &[u32], z: Sizes, p: u32, key: KeyWords) -> bool
     requires { (length t.now ≡ total z) × (p < z.joints) }
-    ensures { Is result (HasKey (tables z t.now).keys p kind a b c) }
+    ensures { Is result (LinkedAs z (tables z t.now) key.kind key.first key.second key.third p) }
 {
-    let at = word::KEY * (p as usize);
-    if table_words::get(t, z, Table::Keys, at + word::KEY_FIRST) != a {
-        return false;
-    }
-    if table_words::get(t, z, Table::Keys, at + word::KEY_SECOND) != b {
-        return false;
-    }
-    if table_words::get(t, z, Table::Keys, at + word::KEY_THIRD) != c {
-        return false;
-    }
-    if table_words::get(t, z, Table::Keys, at) != kind {
-        return false;
-    }
-    true
+    table_words::key_at(t, z, p) == key && table_words::home(t, z, Table::Joints, p) != NONE
 }
 
-// Is the place p linked, with this key?
-fn is_keyed(t: &[u32], z: Sizes, p: u32, kind: u32, a: u32, b: u32, c: u32) -> bool
-    requires { (length t.now ≡ total z) × (p < z.joints) }
-    ensures { Is result (LinkedAs z (tables z t.now) kind a b c p) }
-{
-    if !has_key(t, z, p, kind, a, b, c) {
-        return false;
-    }
-    if table_words::home(t, z, Table::Joints, p) == NONE {
-        return false;
-    }
-    true
-}
-
-// The linked place with this key, or NONE.
-pub fn find_place(t: &[u32], z: Sizes, kind: u32, a: u32, b: u32, c: u32) -> u32
+// The linked place with this key, if there is one.
+pub fn find_place(t: &[u32], z: Sizes, key: JointKey) -> Option<u32>
     requires { Sound z t.now }
-    ensures { Finds z (tables z t.now) kind a b c result }
+    ensures { MatchOption result (NoPlaceHas z (tables z t.now) key) (PlaceHas z (tables z t.now) key) }
 {
     let in_use = table_words::get(t, z, Table::Head, word::JOINTS_USED);
-    let mut p: u32 = 0;
+    let words = KeyWords::from(key);
     // One turn for each joint place in use.
-    while p < in_use {
-        if is_keyed(t, z, p, kind, a, b, c) {
-            return p;
-        }
-        p += 1;
-    }
-    NONE
+    (0..in_use).find(|p| is_keyed(t, z, *p, words))
 }
 
 // ---- a free place
@@ -89,9 +58,27 @@ pub fn grow_place(t: &mut [u32], z: Sizes, p: u32)
 {
     let i = p as usize;
     table_words::set_all(t, z, Table::Keys, word::KEY * i, &[NONE, NONE, NONE, NONE]);
-    table_words::set_all(t, z, Table::Keys, word::KEY * i + word::KEY_BODIES, &[NONE, NONE, NONE, NONE]);
-    table_words::set_all(t, z, Table::Joints, word::CELL * i, &[NONE, NONE, NONE, NONE]);
-    table_words::set_all(t, z, Table::Spare, word::CELL * i, &[NONE, NONE, NONE, NONE]);
+    table_words::set_all(
+        t,
+        z,
+        Table::Keys,
+        word::KEY * i + word::KEY_BODIES,
+        &[NONE, NONE, NONE, NONE],
+    );
+    table_words::set_all(
+        t,
+        z,
+        Table::Joints,
+        word::CELL * i,
+        &[NONE, NONE, NONE, NONE],
+    );
+    table_words::set_all(
+        t,
+        z,
+        Table::Spare,
+        word::CELL * i,
+        &[NONE, NONE, NONE, NONE],
+    );
     table_words::push(t, z, Table::Spare, 0, p);
     table_words::set(t, z, Table::Head, word::JOINTS_USED, p + 1);
 }
@@ -101,38 +88,43 @@ pub fn ready_place(t: &mut [u32], z: Sizes)
     requires { Sound z t.old × ((spare_in z (tables z t.old)).count 0 ≡ 0 → ((extents (tables z t.old)).joints < z.joints) × ((extents (tables z t.old)).joints < none)) }
     ensures { Steps z place_ready t.old t.new }
 {
-    let spare = table_words::count(t, z, Table::Spare, 0);
-    if spare != 0 {
-        return;
+    if table_words::count(t, z, Table::Spare, 0) == 0 {
+        let next = table_words::get(t, z, Table::Head, word::JOINTS_USED);
+        grow_place(t, z, next);
     }
-    let next = table_words::get(t, z, Table::Head, word::JOINTS_USED);
-    grow_place(t, z, next);
 }
 
 // ---- a link comes and goes
 
 // The last freed place takes the link, whose key is new: the last joint link of the island i, which is live.
-pub fn push_joint(
-    t: &mut [u32],
-    z: Sizes,
-    i: u32,
-    kind: u32,
-    a: u32,
-    b: u32,
-    c: u32,
-    s1: u32,
-    g1: u32,
-    s2: u32,
-    g2: u32,
-)
-    requires { Sound z t.old × (0 < (spare_in z (tables z t.old)).count 0) × (i < (extents (tables z t.old)).islands) × (0 < (members_in z (tables z t.old)).count i) × KeyRule kind c × Unlinked z (tables z t.old) kind a b c }
-    ensures { Steps z (joint_push i (key_of kind a b c) (handle s1 g1) (handle s2 g2)) t.old t.new }
+pub fn push_joint(t: &mut [u32], z: Sizes, i: u32, key: JointKey, first: Handle, second: Handle)
+    requires { Sound z t.old × (0 < (spare_in z (tables z t.old)).count 0) × (i < (extents (tables z t.old)).islands) × (0 < (members_in z (tables z t.old)).count i) × NoPlaceHas z (tables z t.old) key }
+    ensures { Steps z (joint_push i (key_is key) (handle first.slot.0 first.generation) (handle second.slot.0 second.generation)) t.old t.new }
 {
     let p = table_words::last(t, z, Table::Spare, 0);
     table_words::remove(t, z, Table::Spare, p);
     table_words::push(t, z, Table::Joints, i, p);
-    table_words::set_all(t, z, Table::Keys, word::KEY * (p as usize), &[kind, a, b, c]);
-    table_words::set_all(t, z, Table::Keys, word::KEY * (p as usize) + word::KEY_BODIES, &[s1, g1, s2, g2]);
+    let words = KeyWords::from(key);
+    let at = word::KEY * (p as usize);
+    table_words::set_all(
+        t,
+        z,
+        Table::Keys,
+        at,
+        &[words.kind, words.first, words.second, words.third],
+    );
+    table_words::set_all(
+        t,
+        z,
+        Table::Keys,
+        at + word::KEY_BODIES,
+        &[
+            first.slot.0,
+            first.generation,
+            second.slot.0,
+            second.generation,
+        ],
+    );
 }
 
 // The link at the place p goes, and the place is free.
@@ -141,53 +133,42 @@ pub fn take_joint(t: &mut [u32], z: Sizes, p: u32)
     ensures { JointGone z p t.old t.new }
 {
     table_words::remove(t, z, Table::Joints, p);
-    table_words::set_all(t, z, Table::Keys, word::KEY * (p as usize), &[NONE, NONE, NONE, NONE]);
-    table_words::set_all(t, z, Table::Keys, word::KEY * (p as usize) + word::KEY_BODIES, &[NONE, NONE, NONE, NONE]);
+    table_words::set_all(
+        t,
+        z,
+        Table::Keys,
+        word::KEY * (p as usize),
+        &[NONE, NONE, NONE, NONE],
+    );
+    table_words::set_all(
+        t,
+        z,
+        Table::Keys,
+        word::KEY * (p as usize) + word::KEY_BODIES,
+        &[NONE, NONE, NONE, NONE],
+    );
     table_words::push(t, z, Table::Spare, 0, p);
 }
 
-// Does the link at the place p lead from a body to itself?
-fn same_ends(t: &[u32], z: Sizes, p: u32) -> bool
-    requires { (length t.now ≡ total z) × (p < z.joints) }
-    ensures { result ≡ same_handle (handle_at (tables z t.now).keys (8 * p + 4)) (handle_at (tables z t.now).keys (8 * p + 6)) }
+// unlink_joint, on sound tables. A link from a body to itself is not journalled.
+pub fn unlink_joint_on(t: &mut [u32], z: Sizes, key: JointKey) -> Answer
+    requires { Sound z t.old }
+    ensures { Does z (unlink_joint z (key_is key)) t.old result t.new }
 {
-    let first = word::KEY * (p as usize) + word::KEY_BODIES;
-    let second = word::KEY * (p as usize) + word::KEY_SLOT2;
-    if table_words::get(t, z, Table::Keys, first) != table_words::get(t, z, Table::Keys, second) {
-        return false;
-    }
-    if table_words::get(t, z, Table::Keys, first + word::GENERATION1)
-        != table_words::get(t, z, Table::Keys, second + word::GENERATION1)
-    {
-        return false;
-    }
-    true
-}
-
-// unlink_joint, on sound tables.
-pub fn unlink_joint_on(t: &mut [u32], z: Sizes, kind: u32, a: u32, b: u32, c: u32) -> Answer
-    requires { Sound z t.old × KeyRule kind c }
-    ensures { Does z (unlink_joint z (key_of kind a b c)) t.old result t.new }
-{
-    let p = find_place(t, z, kind, a, b, c);
-    if p == NONE {
+    let Some(p) = find_place(t, z, key) else {
         return Ok(Outcome::Nothing);
-    }
-    if same_ends(t, z, p) {
+    };
+    let at = word::KEY * (p as usize);
+    let first = table_words::handle_at(t, z, Table::Keys, at + word::KEY_BODIES);
+    let second = table_words::handle_at(t, z, Table::Keys, at + word::KEY_SLOT2);
+    if first == second {
         take_joint(t, z, p);
         return Ok(Outcome::Done);
     }
-    let entries = table_words::get(t, z, Table::Head, word::JOURNAL_USED);
-    if entries >= z.journal {
+    if table_words::get(t, z, Table::Head, word::JOURNAL_USED) >= z.journal {
         return Err(Refusal::JournalFull);
     }
-    let first = word::KEY * (p as usize) + word::KEY_BODIES;
-    let second = word::KEY * (p as usize) + word::KEY_SLOT2;
-    let s1 = table_words::get(t, z, Table::Keys, first);
-    let g1 = table_words::get(t, z, Table::Keys, first + word::GENERATION1);
-    let s2 = table_words::get(t, z, Table::Keys, second);
-    let g2 = table_words::get(t, z, Table::Keys, second + word::GENERATION1);
     take_joint(t, z, p);
-    core_contact::push_entry(t, z, s1, g1, s2, g2);
+    core_contact::push_entry(t, z, first, second);
     Ok(Outcome::Done)
 }

@@ -1,10 +1,12 @@
 -- Joint places: which one has a key; one more place; and what it is that a link was taken out.
 use Rattle.std.specs.Prelude.{◌≡◌, ◌⊎◌, ◌≢◌, List, [], ◌∷◌, ◌++◌, ℕ, ◌+◌, ◌*◌, ◌<◌, get_or}
 use Rattle.list_in_table.specs.Rules.{none}
+use Rattle.def_kinds.specs.declared.JointKey.{JointKey}
 use Rattle.def_kinds.specs.declared.Sizes.{Sizes}
 use Rattle.def_state.specs.World.{World, Step, done}
 use Rattle.def_state.specs.Fields.{places_set}
 use Rattle.table_meaning.specs.Layout.{Tables, tables, extents, joints_in}
+use Rattle.table_meaning.specs.Keys.{words_of}
 use Rattle.core_laws.specs.Steps.{Steps}
 use Rattle.core_laws.specs.Drops.{Stays, ContactsStay}
 use Rattle.core_laws.specs.Linking.{joint_remove}
@@ -34,9 +36,13 @@ module _ (Z : Sizes) (T : Tables) (kind a b c : ℕ) where
   abbrev pub Unlinked : Type 0
   Unlinked = (p : ℕ) → p < (extents T).joints → LinkedAs p → ⊥
 
-  -- r is the place that has them, or none
-  abbrev pub Finds : (r : ℕ) → Type 0
-  Finds r = ((r ≡ none) × Unlinked) ⊎ KeyAt r
+-- the place p, in use, is linked with this key
+abbrev pub PlaceHas : (Z : Sizes) (T : Tables) (key : JointKey) (p : ℕ) → Type 0
+PlaceHas Z T key p = KeyAt Z T (words_of key).kind (words_of key).first (words_of key).second (words_of key).third p
+
+-- no linked place in use has this key
+abbrev pub NoPlaceHas : (Z : Sizes) (T : Tables) (key : JointKey) → Type 0
+NoPlaceHas Z T key = Unlinked Z T (words_of key).kind (words_of key).first (words_of key).second (words_of key).third
 
 -- the next place of the key table comes into use, free
 unfoldable pub one_place : World → World

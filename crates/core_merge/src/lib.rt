@@ -10,30 +10,18 @@ ghost use Rattle.core_laws.specs.Merging.{both_asleep, rows_mixed, TwoLive, Abso
 use def_kinds::Sizes;
 use table_meaning::{Table, word};
 
-// Counts stop here.
-const MOST: u32 = 4294967295;
-
-// Counts add, and stop at MOST.
+// Counts add, and stop at the largest number.
 pub fn add_counts(a: u32, b: u32) -> u32
     ensures { result ≡ add_counts a b }
 {
-    if b > MOST - a {
-        return MOST;
-    }
-    a + b
+    a.saturating_add(b)
 }
 
 // The sleeping word of two islands in one: asleep only if both sleep.
 fn both_asleep(a: u32, b: u32) -> u32
     ensures { result ≡ both_asleep a b }
 {
-    if a != 1 {
-        return 0;
-    }
-    if b != 1 {
-        return 0;
-    }
-    1
+    u32::from(a == 1 && b == 1)
 }
 
 // The row of big gets the count and the sleeping of both, and keeps its denial; the row of small is zeroed.
@@ -79,8 +67,9 @@ pub fn merge_islands(t: &mut [u32], z: Sizes, a: u32, b: u32) -> u32
     let bodies_b = table_words::count(t, z, Table::Members, b);
     if bodies_a >= bodies_b {
         absorb(t, z, a, b);
-        return a;
+        a
+    } else {
+        absorb(t, z, b, a);
+        b
     }
-    absorb(t, z, b, a);
-    b
 }

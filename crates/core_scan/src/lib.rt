@@ -18,9 +18,8 @@ pub fn scan_of(t: &[u32], z: Sizes) -> Scan
     ensures { ScanIs z t.now result }
 {
     let stamp = table_words::get(t, z, Table::Head, word::STAMP);
-    let word = table_words::get(t, z, Table::Head, word::SCAN_OPEN);
+    let open = table_words::get(t, z, Table::Head, word::SCAN_OPEN) == 1;
     let waiting = table_words::count(t, z, Table::Scan, 0);
-    let open = word == 1;
     Scan {
         stamp,
         open,
@@ -33,10 +32,8 @@ pub fn keep_scan(t: &mut [u32], z: Sizes, scan: Scan)
     requires { Fitting z t.old scan }
     ensures { Steps z (stamped scan.stamp scan.open) t.old t.new }
 {
-    let stamp = scan.stamp;
-    let open = scan.open;
-    let word = core_body::bit(open);
-    table_words::set_all(t, z, Table::Head, word::STAMP, &[stamp, word]);
+    let open = u32::from(scan.open);
+    table_words::set_all(t, z, Table::Head, word::STAMP, &[scan.stamp, open]);
 }
 
 // The island that was observed last is forgotten.
@@ -54,11 +51,10 @@ pub fn clear_scan(t: &mut [u32], z: Sizes)
     requires { Sound z t.old }
     ensures { Forgotten z t.old t.new }
 {
-    let mut left = table_words::count(t, z, Table::Scan, 0);
+    let waiting = table_words::count(t, z, Table::Scan, 0);
     // One turn for each island in the scan's list: at most as many as there are islands.
-    while left > 0 {
+    for _ in 0..waiting {
         forget_last(t, z);
-        left -= 1;
     }
 }
 
@@ -68,8 +64,7 @@ pub fn begin_on(t: &mut [u32], z: Sizes) -> Answer
     ensures { Does z begin_sleep_scan t.old result t.new }
 {
     clear_scan(t, z);
-    let scan = scan_of(t, z);
-    let opened = scan.begin();
+    let opened = scan_of(t, z).begin();
     keep_scan(t, z, opened);
     Ok(Outcome::Done)
 }
@@ -79,11 +74,9 @@ fn observe_first(t: &mut [u32], z: Sizes, i: u32, eligible: bool)
     requires { Unheard z t.old i }
     ensures { Steps z (noting i eligible) t.old t.new }
 {
-    let scan = scan_of(t, z);
-    let more = scan.observe();
-    let word = core_body::bit(eligible);
+    let more = scan_of(t, z).observe();
     table_words::push(t, z, Table::Scan, 0, i);
-    table_words::set(t, z, Table::Fit, i as usize, word);
+    table_words::set(t, z, Table::Fit, i as usize, u32::from(eligible));
     keep_scan(t, z, more);
 }
 
@@ -92,10 +85,9 @@ fn observe_again(t: &mut [u32], z: Sizes, i: u32, eligible: bool)
     requires { Heard z t.old i }
     ensures { Steps z (noting i eligible) t.old t.new }
 {
-    if eligible {
-        return;
+    if !eligible {
+        table_words::set(t, z, Table::Fit, i as usize, 0);
     }
-    table_words::set(t, z, Table::Fit, i as usize, 0);
 }
 
 // observe_body_for_sleep, on sound tables.
@@ -106,15 +98,14 @@ pub fn observe_on(t: &mut [u32], z: Sizes, i: u32, eligible: bool) -> Answer
     if !core_live::is_live(t, z, i) {
         return Err(Refusal::NoIsland);
     }
-    let open = table_words::get(t, z, Table::Head, word::SCAN_OPEN);
-    if open != 1 {
+    if table_words::get(t, z, Table::Head, word::SCAN_OPEN) != 1 {
         return Err(Refusal::NoScan);
     }
-    let home = table_words::home(t, z, Table::Scan, i);
-    if home == NONE {
+    // A word of the tables, where NONE is no list.
+    if table_words::home(t, z, Table::Scan, i) == NONE {
         observe_first(t, z, i, eligible);
-        return Ok(Outcome::Done);
+    } else {
+        observe_again(t, z, i, eligible);
     }
-    observe_again(t, z, i, eligible);
     Ok(Outcome::Done)
 }

@@ -16,8 +16,14 @@ fn rest(t: &mut [u32], z: Sizes, i: u32, asleep: bool)
     requires { Sound z t.old × Lives z t.old i }
     ensures { Steps z (rest_as i asleep) t.old t.new }
 {
-    let word = core_body::bit(asleep);
-    table_words::set(t, z, Table::Rows, word::ROW * (i as usize) + word::ASLEEP, word);
+    let word = u32::from(asleep);
+    table_words::set(
+        t,
+        z,
+        Table::Rows,
+        word::ROW * (i as usize) + word::ASLEEP,
+        word,
+    );
 }
 
 // mark_island_sleeping, on sound tables.

@@ -1,47 +1,38 @@
--- A call from its audit's answer.
-use mathlib.Core.Path.{◌≡◌, refl, sym, ◌∙◌, ap}
-use mathlib.Core.Logic.{inl, inr}
-use mathlib.Core.Bool.{Bool, true, false, false≢true}
-use mathlib.Core.List.{List}
-use Prim.Native.Nat.{ℕ}
-use Rattle.list_in_table.specs.Rules.{Is}
+-- A call from its audit: tables that are not sound are refused, and nothing changes; on sound ones it is the step.
+use Rattle.std.proofs.Common.{◌≡◌, refl, ap, List, ℕ, inl, inr, Bool, Result, Ok, Err}
+use Rattle.std.specs.Result.{result_unwrap_or}
 use Rattle.def_kinds.specs.declared.Sizes.{Sizes}
-use Rattle.def_kinds.specs.Answers.{Answer, Done, BadTables}
+use Rattle.def_kinds.specs.declared.Refusal.{Refusal}
+use Rattle.def_kinds.specs.declared.Refusal.TheVariants.{BadTables}
+use Rattle.def_kinds.specs.Answers.{Answer, answer_of}
 use Rattle.def_state.specs.World.{World, Step}
+use Rattle.def_state.specs.Split.{split_allowed}
 use Rattle.table_meaning.specs.Decode.{world_of}
 use Rattle.table_meaning.specs.Sound.{Sound}
 use Rattle.table_meaning.specs.Does.{Does, Called, Asks}
-use Rattle.def_kinds.specs.declared.BidAnswer.{BidAnswer}
-use Rattle.def_state.specs.Split.{split_allowed}
-use Rattle.host_calls.specs.Refusal.{may_bid}
 use Rattle.core_finish.specs.Listing.{Finishes, Finish}
+use Rattle.host_calls.specs.Refusal.{may_bid}
 
--- the audit said yes
-pub sound-is : (Z : Sizes) (t : List ℕ) (b : Bool) → Is b (Sound Z t) → b ≡ true → Sound Z t
-sound-is Z t b a e = a.0 e
+module _ (Z : Sizes) (t : List ℕ) where
+  pub call_unsound : (f : World → Step) → (Sound Z t → ⊥) → Called Z f t (Err BadTables) t
+  call_unsound f unsound = inr (record { unsound = unsound; nine = refl; same = refl })
 
-unsound-is : (Z : Sizes) (t : List ℕ) (b : Bool) → Is b (Sound Z t) → b ≡ false → Sound Z t → ⊥
-unsound-is Z t b a e S = false≢true (sym e ∙ a.1 S)
+  pub call_sound : (f : World → Step) {r : Answer} {t' : List ℕ} → Sound Z t → Does Z f t r t' → Called Z f t r t'
+  call_sound f S D = inl (S, D)
 
-pub call-no : (Z : Sizes) (f : World → Step) (t : List ℕ) (b : Bool) → Is b (Sound Z t) → b ≡ false → Called Z f t BadTables t
-call-no Z f t b a e = inr (record { unsound = unsound-is Z t b a e; nine = refl; same = refl })
+  pub asks_unsound : {A : Type 0} (f : World → Result A Refusal) → (Sound Z t → ⊥) → Asks Z f (Err BadTables) t (Err BadTables)
+  asks_unsound f unsound = inr (unsound, refl)
 
-pub call-yes : (Z : Sizes) (f : World → Step) (t : List ℕ) (b : Bool) {r : Answer} {t' : List ℕ} → Is b (Sound Z t) → b ≡ true → Does Z f t r t' → Called Z f t r t'
-call-yes Z f t b a e D = inl (sound-is Z t b a e, D)
+  pub asks_sound : {A : Type 0} (f : World → Result A Refusal) {r : Result A Refusal} → Sound Z t → r ≡ f (world_of Z t) → Asks Z f (Err BadTables) t r
+  asks_sound f S q = inl (S, q)
 
-pub asks-no : {A : Type 0} (Z : Sizes) (f : World → A) (n : A) (t : List ℕ) (b : Bool) → Is b (Sound Z t) → b ≡ false → Asks Z f n t n
-asks-no Z f n t b a e = inr (unsound-is Z t b a e, refl)
+  pub finish_unsound : (out : List ℕ) → (Sound Z t → ⊥) → Finish Z t out (Err BadTables) 0 t out
+  finish_unsound out unsound = inr (record { refuses = record { unsound = unsound; nine = refl; same = refl }; length_is = refl; out_is = refl })
 
-pub asks-yes : {A : Type 0} (Z : Sizes) (f : World → A) (n : A) (t : List ℕ) (b : Bool) {r : A} → Is b (Sound Z t) → b ≡ true → r ≡ f (world_of Z t) → Asks Z f n t r
-asks-yes Z f n t b a e q = inl (sound-is Z t b a e, q)
+  pub finish_sound : (out : List ℕ) {r : Answer} {n : ℕ} {t' out' : List ℕ} → Sound Z t → Finishes Z t out r n t' out' → Finish Z t out r n t' out'
+  finish_sound out S F = inl (S, F)
 
-pub finish-no : (Z : Sizes) (t out : List ℕ) (b : Bool) → Is b (Sound Z t) → b ≡ false → Finish Z t out BadTables 0 t out
-finish-no Z t out b a e = inr (record { refuses = record { unsound = unsound-is Z t b a e; nine = refl; same = refl }; length_is = refl; out_is = refl })
-
-pub finish-yes : (Z : Sizes) (t out : List ℕ) (b : Bool) {r : Answer} {n : ℕ} {t' out' : List ℕ} → Is b (Sound Z t) → b ≡ true → Finishes Z t out r n t' out' → Finish Z t out r n t' out'
-finish-yes Z t out b a e F = inl (sound-is Z t b a e, F)
-
--- the answer to "may this island bid", by its two parts
-pub bid-is : (i : ℕ) (w : World) {b : Bool} → b ≡ split_allowed i w → ◌≡◌ {A = BidAnswer} (record { answer = Done; yes = b }) (may_bid i w)
+-- the question whether an island may bid, by its answer
+pub bid_is : (i : ℕ) (w : World) {b : Bool} → b ≡ split_allowed i w → ◌≡◌ {A = Result Bool Refusal} (Ok b) (may_bid i w)
 unfolding may_bid
-bid-is i w e = ap (λ (x : Bool). record { answer = Done; yes = x }) e
+bid_is i w e = ap (λ (x : Bool). Ok x) e

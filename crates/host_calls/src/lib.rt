@@ -2,9 +2,11 @@
 #![tactic(auto)]
 
 ghost use Rattle.std.specs.Prelude.{◌≡◌, ◌≤◌, length, ◌/◌, ◌%◌};
+ghost use Rattle.std.specs.Result.{result_unwrap_or};
+ghost use Rattle.def_kinds.specs.Answers.{answer_of};
 ghost use Rattle.def_kinds.specs.Number.{rig};
-ghost use Rattle.def_state.specs.Bodies.{put as putStep, flags as flagsStep, retire as retireStep, island as island_of};
-ghost use Rattle.def_state.specs.Membership.{ensure as ensureStep, remove as removeStep};
+ghost use Rattle.def_state.specs.Bodies.{put as put_step, flags as flags_step, retire as retire_step, island as island_of};
+ghost use Rattle.def_state.specs.Membership.{ensure as ensure_step, remove as remove_step};
 ghost use Rattle.def_state.specs.Links.{link_contact, unlink_contact, contact_edge_removed, link_joint, unlink_joint};
 ghost use Rattle.def_state.specs.Resolver.{resolve_removals};
 ghost use Rattle.def_state.specs.Chain.{refresh_multibody_chain};
@@ -17,7 +19,7 @@ ghost use Rattle.core_laws.specs.Steps.{handle};
 ghost use Rattle.def_state.specs.Scan.{begin_sleep_scan, observe_body_for_sleep, mark_island_sleeping, wake_island};
 ghost use Rattle.core_finish.specs.Listing.{Finish};
 
-use def_kinds::{Answer, Edge, Handle, Island, JointKey, Sizes, BidAnswer, IslandAnswer, ListAnswer};
+use def_kinds::{Answer, Edge, Flags, Handle, Island, JointKey, Refusal, Sizes};
 
 pub mod sized;
 
@@ -29,103 +31,69 @@ pub fn reset(t: &mut [u32]) -> Answer
     core_reset::reset_of(t, Sizes::RIG)
 }
 
-pub fn put(t: &mut [u32], h: Handle, fixed: bool, enabled: bool, sleeping: bool) -> Answer
-    ensures { Called rig (putStep rig (handle h.slot.0 h.generation) fixed enabled sleeping) t.old result t.new }
+pub fn put(t: &mut [u32], h: Handle, flags: Flags) -> Answer
+    ensures { Called rig (put_step rig (handle h.slot.0 h.generation) flags.fixed flags.enabled flags.sleeping) t.old result t.new }
 {
-    let slot = h.slot;
-    let s = slot.0;
-    let g = h.generation;
-    sized::put(t, Sizes::RIG, s, g, fixed, enabled, sleeping)
+    sized::put(t, Sizes::RIG, h, flags)
 }
 
-pub fn flags(t: &mut [u32], h: Handle, fixed: bool, enabled: bool, sleeping: bool) -> Answer
-    ensures { Called rig (flagsStep (handle h.slot.0 h.generation) fixed enabled sleeping) t.old result t.new }
+pub fn flags(t: &mut [u32], h: Handle, flags: Flags) -> Answer
+    ensures { Called rig (flags_step (handle h.slot.0 h.generation) flags.fixed flags.enabled flags.sleeping) t.old result t.new }
 {
-    let slot = h.slot;
-    let s = slot.0;
-    let g = h.generation;
-    sized::flags(t, Sizes::RIG, s, g, fixed, enabled, sleeping)
+    sized::flags(t, Sizes::RIG, h, flags)
 }
 
 pub fn ensure(t: &mut [u32], h: Handle) -> Answer
-    ensures { Called rig (ensureStep (handle h.slot.0 h.generation)) t.old result t.new }
+    ensures { Called rig (ensure_step (handle h.slot.0 h.generation)) t.old result t.new }
 {
-    let slot = h.slot;
-    let s = slot.0;
-    let g = h.generation;
-    sized::ensure(t, Sizes::RIG, s, g)
+    sized::ensure(t, Sizes::RIG, h)
 }
 
 pub fn remove(t: &mut [u32], h: Handle) -> Answer
-    ensures { Called rig (removeStep (handle h.slot.0 h.generation)) t.old result t.new }
+    ensures { Called rig (remove_step (handle h.slot.0 h.generation)) t.old result t.new }
 {
-    let slot = h.slot;
-    let s = slot.0;
-    let g = h.generation;
-    sized::remove(t, Sizes::RIG, s, g)
+    sized::remove(t, Sizes::RIG, h)
 }
 
 pub fn retire(t: &mut [u32], h: Handle) -> Answer
-    ensures { Called rig (retireStep (handle h.slot.0 h.generation)) t.old result t.new }
+    ensures { Called rig (retire_step (handle h.slot.0 h.generation)) t.old result t.new }
 {
-    let slot = h.slot;
-    let s = slot.0;
-    let g = h.generation;
-    sized::retire(t, Sizes::RIG, s, g)
+    sized::retire(t, Sizes::RIG, h)
 }
 
-// A body's island: its number, or 4294967295 for none and with any other answer than Done.
-pub fn island(t: &[u32], h: Handle) -> IslandAnswer
+// A body's island, or none.
+pub fn island(t: &[u32], h: Handle) -> Result<Option<Island>, Refusal>
     ensures { Asks rig (island_of (handle h.slot.0 h.generation)) refused_island t.now result }
 {
-    let slot = h.slot;
-    let s = slot.0;
-    let g = h.generation;
-    sized::island(t, Sizes::RIG, s, g)
+    sized::island(t, Sizes::RIG, h)
 }
 
 // Links a touching contact between two bodies, merging their islands if they differ.
 pub fn contact(t: &mut [u32], edge: Edge, first: Handle, second: Handle) -> Answer
     ensures { Called rig (link_contact rig edge.0 (handle first.slot.0 first.generation) (handle second.slot.0 second.generation)) t.old result t.new }
 {
-    let e = edge.0;
-    let slot1 = first.slot;
-    let s1 = slot1.0;
-    let g1 = first.generation;
-    let slot2 = second.slot;
-    let s2 = slot2.0;
-    let g2 = second.generation;
-    sized::contact(t, Sizes::RIG, e, s1, g1, s2, g2)
+    sized::contact(t, Sizes::RIG, edge, first, second)
 }
 
 // Unlinks the contact of an edge number, and journals its removal.
 pub fn uncontact(t: &mut [u32], edge: Edge) -> Answer
     ensures { Called rig (unlink_contact rig edge.0) t.old result t.new }
 {
-    let e = edge.0;
-    sized::uncontact(t, Sizes::RIG, e)
+    sized::uncontact(t, Sizes::RIG, edge)
 }
 
 // The edge `removed` is gone, and the edge `last` has taken its number.
 pub fn renumber(t: &mut [u32], removed: Edge, last: Edge) -> Answer
     ensures { Called rig (contact_edge_removed removed.0 last.0) t.old result t.new }
 {
-    let r = removed.0;
-    let l = last.0;
-    sized::renumber(t, Sizes::RIG, r, l)
+    sized::renumber(t, Sizes::RIG, removed, last)
 }
 
 // Links a joint between two bodies, merging their islands if they differ.
 pub fn joint(t: &mut [u32], key: JointKey, first: Handle, second: Handle) -> Answer
     ensures { Called rig (link_joint rig (key_is key) (handle first.slot.0 first.generation) (handle second.slot.0 second.generation)) t.old result t.new }
 {
-    let slot1 = first.slot;
-    let s1 = slot1.0;
-    let g1 = first.generation;
-    let slot2 = second.slot;
-    let s2 = slot2.0;
-    let g2 = second.generation;
-    sized::joint(t, Sizes::RIG, key, s1, g1, s2, g2)
+    sized::joint(t, Sizes::RIG, key, first, second)
 }
 
 // Unlinks the joint of a key, and journals its removal.
@@ -160,13 +128,12 @@ pub fn begin(t: &mut [u32]) -> Answer
 pub fn observe(t: &mut [u32], island: Island, eligible: bool) -> Answer
     ensures { Called rig (observe_body_for_sleep island.0 eligible) t.old result t.new }
 {
-    let i = island.0;
-    sized::observe(t, Sizes::RIG, i, eligible)
+    sized::observe(t, Sizes::RIG, island, eligible)
 }
 
 // Lists the islands that may sleep, in order of first observation, and closes the scan.
-pub fn finish(t: &mut [u32], out: &mut [u32]) -> ListAnswer
-    ensures { Finish rig t.old out.old result.answer result.length t.new out.new }
+pub fn finish(t: &mut [u32], out: &mut [u32]) -> Result<u32, Refusal>
+    ensures { Finish rig t.old out.old (answer_of result) (result_unwrap_or result 0) t.new out.new }
 {
     sized::finish(t, Sizes::RIG, out)
 }
@@ -175,32 +142,28 @@ pub fn finish(t: &mut [u32], out: &mut [u32]) -> ListAnswer
 pub fn sleep(t: &mut [u32], island: Island) -> Answer
     ensures { Called rig (mark_island_sleeping island.0) t.old result t.new }
 {
-    let i = island.0;
-    sized::sleep(t, Sizes::RIG, i)
+    sized::sleep(t, Sizes::RIG, island)
 }
 
 // The island wakes.
 pub fn wake(t: &mut [u32], island: Island) -> Answer
     ensures { Called rig (wake_island island.0) t.old result t.new }
 {
-    let i = island.0;
-    sized::wake(t, Sizes::RIG, i)
+    sized::wake(t, Sizes::RIG, island)
 }
 
 // Splits a live island into its components.
 pub fn split(t: &mut [u32], island: Island) -> Answer
     ensures { Called rig (split_island_now island.0) t.old result t.new }
 {
-    let i = island.0;
-    sized::split(t, Sizes::RIG, i)
+    sized::split(t, Sizes::RIG, island)
 }
 
 // The island waits for its split; any number.
 pub fn schedule(t: &mut [u32], island: Island) -> Answer
     ensures { Called rig (schedule_split island.0) t.old result t.new }
 {
-    let i = island.0;
-    sized::schedule(t, Sizes::RIG, i)
+    sized::schedule(t, Sizes::RIG, island)
 }
 
 // Runs the waiting split.
@@ -211,9 +174,8 @@ pub fn run(t: &mut [u32]) -> Answer
 }
 
 // May the island bid for a split?
-pub fn may_bid(t: &[u32], island: Island) -> BidAnswer
+pub fn may_bid(t: &[u32], island: Island) -> Result<bool, Refusal>
     ensures { Asks rig (may_bid island.0) refused_bid t.now result }
 {
-    let i = island.0;
-    sized::may_bid(t, Sizes::RIG, i)
+    sized::may_bid(t, Sizes::RIG, island)
 }

@@ -1,5 +1,11 @@
 // The calls at any sizes, on any words: the audit, and then the step on sound tables.
-ghost use Rattle.std.specs.Prelude.{◌≡◌, ◌/◌, ◌%◌, ◌≤◌, length};
+#![tactic(auto, using(crate::proofs::Laws::call_unsound, crate::proofs::Laws::call_sound, crate::proofs::Laws::asks_unsound, crate::proofs::Laws::asks_sound, crate::proofs::Laws::finish_unsound, crate::proofs::Laws::finish_sound, crate::proofs::Laws::bid_is))]
+
+ghost use Rattle.std.specs.Prelude.{◌≡◌, ◌/◌, ◌%◌, ◌≤◌, length, MatchResult};
+ghost use Rattle.std.specs.Result.{result_unwrap_or};
+ghost use Rattle.def_kinds.specs.Answers.{answer_of};
+ghost use Rattle.def_kinds.specs.declared.Refusal.TheVariants.{BadTables};
+ghost use Rattle.table_meaning.specs.Sound.{Sound};
 ghost use Rattle.def_state.specs.Bodies.{put as put_step, flags as flags_step, retire as retire_step, island as island_of};
 ghost use Rattle.def_state.specs.Membership.{ensure as ensure_step, remove as remove_step};
 ghost use Rattle.def_state.specs.Links.{link_contact, unlink_contact, contact_edge_removed, link_joint, unlink_joint};
@@ -14,180 +20,119 @@ ghost use Rattle.core_laws.specs.Steps.{handle};
 ghost use Rattle.def_state.specs.Scan.{begin_sleep_scan, observe_body_for_sleep, mark_island_sleeping, wake_island};
 ghost use Rattle.core_finish.specs.Listing.{Finish};
 
-use def_kinds::{Answer, Island, JointKey, NONE, Outcome, Refusal, Sizes, BidAnswer, IslandAnswer, ListAnswer};
+use def_kinds::{Answer, Edge, Flags, Handle, Island, JointKey, Refusal, Sizes};
+
+// Are the tables well formed? A call on others is refused.
+fn audit(t: &[u32], z: Sizes) -> Result<(), Refusal>
+    ensures { MatchResult result (λ _. Sound z t.now) (λ refusal. (refusal ≡ BadTables) × (Sound z t.now → ⊥)) }
+{
+    if table_audit::sound(t, z) {
+        Ok(())
+    } else {
+        Err(Refusal::BadTables)
+    }
+}
 
 pub fn put(
     t: &mut [u32],
     z: Sizes,
-    s: u32,
-    g: u32,
-    fixed: bool,
-    enabled: bool,
-    sleeping: bool,
+    h: Handle,
+    flags: Flags,
 ) -> Answer
-    ensures { Called z (put_step z (handle s g) fixed enabled sleeping) t.old result t.new }
+    ensures { Called z (put_step z (handle h.slot.0 h.generation) flags.fixed flags.enabled flags.sleeping) t.old result t.new }
 {
-    if !table_audit::sound(t, z) {
-        return Err(Refusal::BadTables);
-    }
-    core_body::put_on(t, z, s, g, fixed, enabled, sleeping)
+    audit(t, z)?;
+    core_body::put_on(t, z, h, flags)
 }
 
 pub fn flags(
     t: &mut [u32],
     z: Sizes,
-    s: u32,
-    g: u32,
-    fixed: bool,
-    enabled: bool,
-    sleeping: bool,
+    h: Handle,
+    flags: Flags,
 ) -> Answer
-    ensures { Called z (flags_step (handle s g) fixed enabled sleeping) t.old result t.new }
+    ensures { Called z (flags_step (handle h.slot.0 h.generation) flags.fixed flags.enabled flags.sleeping) t.old result t.new }
 {
-    if !table_audit::sound(t, z) {
-        return Err(Refusal::BadTables);
-    }
-    core_body::flags_on(t, z, s, g, fixed, enabled, sleeping)
+    audit(t, z)?;
+    core_body::flags_on(t, z, h, flags)
 }
 
-pub fn ensure(t: &mut [u32], z: Sizes, s: u32, g: u32) -> Answer
-    ensures { Called z (ensure_step (handle s g)) t.old result t.new }
+pub fn ensure(t: &mut [u32], z: Sizes, h: Handle) -> Answer
+    ensures { Called z (ensure_step (handle h.slot.0 h.generation)) t.old result t.new }
 {
-    if !table_audit::sound(t, z) {
-        return Err(Refusal::BadTables);
-    }
-    core_ensure::ensure_on(t, z, s, g)
+    audit(t, z)?;
+    core_ensure::ensure_on(t, z, h)
 }
 
-pub fn remove(t: &mut [u32], z: Sizes, s: u32, g: u32) -> Answer
-    ensures { Called z (remove_step (handle s g)) t.old result t.new }
+pub fn remove(t: &mut [u32], z: Sizes, h: Handle) -> Answer
+    ensures { Called z (remove_step (handle h.slot.0 h.generation)) t.old result t.new }
 {
-    if !table_audit::sound(t, z) {
-        return Err(Refusal::BadTables);
-    }
-    core_remove::remove_on(t, z, s, g)
+    audit(t, z)?;
+    core_remove::remove_on(t, z, h)
 }
 
-pub fn retire(t: &mut [u32], z: Sizes, s: u32, g: u32) -> Answer
-    ensures { Called z (retire_step (handle s g)) t.old result t.new }
+pub fn retire(t: &mut [u32], z: Sizes, h: Handle) -> Answer
+    ensures { Called z (retire_step (handle h.slot.0 h.generation)) t.old result t.new }
 {
-    if !table_audit::sound(t, z) {
-        return Err(Refusal::BadTables);
-    }
-    core_remove::retire_on(t, z, s, g)
+    audit(t, z)?;
+    core_remove::retire_on(t, z, h)
 }
 
-pub fn island(t: &[u32], z: Sizes, s: u32, g: u32) -> IslandAnswer
-    ensures { Asks z (island_of (handle s g)) refused_island t.now result }
+pub fn island(t: &[u32], z: Sizes, h: Handle) -> Result<Option<Island>, Refusal>
+    ensures { Asks z (island_of (handle h.slot.0 h.generation)) refused_island t.now result }
 {
-    if !table_audit::sound(t, z) {
-        return IslandAnswer {
-            answer: Err(Refusal::BadTables),
-            island: Island(NONE),
-        };
-    }
-    core_remove::island_on(t, z, s, g)
+    audit(t, z)?;
+    core_remove::island_on(t, z, h)
 }
 
-pub fn uncontact(t: &mut [u32], z: Sizes, e: u32) -> Answer
-    ensures { Called z (unlink_contact z e) t.old result t.new }
+pub fn uncontact(t: &mut [u32], z: Sizes, edge: Edge) -> Answer
+    ensures { Called z (unlink_contact z edge.0) t.old result t.new }
 {
-    if !table_audit::sound(t, z) {
-        return Err(Refusal::BadTables);
-    }
-    core_contact::unlink_contact_on(t, z, e)
+    audit(t, z)?;
+    core_contact::unlink_contact_on(t, z, edge.0)
 }
 
 pub fn resolve(t: &mut [u32], z: Sizes) -> Answer
     ensures { Called z resolve_removals t.old result t.new }
 {
-    if !table_audit::sound(t, z) {
-        return Err(Refusal::BadTables);
-    }
+    audit(t, z)?;
     core_resolve::resolve_on(t, z)
 }
 
-pub fn contact(t: &mut [u32], z: Sizes, e: u32, s1: u32, g1: u32, s2: u32, g2: u32) -> Answer
-    ensures { Called z (link_contact z e (handle s1 g1) (handle s2 g2)) t.old result t.new }
+pub fn contact(t: &mut [u32], z: Sizes, edge: Edge, first: Handle, second: Handle) -> Answer
+    ensures { Called z (link_contact z edge.0 (handle first.slot.0 first.generation) (handle second.slot.0 second.generation)) t.old result t.new }
 {
-    if !table_audit::sound(t, z) {
-        return Err(Refusal::BadTables);
-    }
-    core_link::link_contact_on(t, z, e, s1, g1, s2, g2)
+    audit(t, z)?;
+    core_link::link_contact_on(t, z, edge.0, first, second)
 }
 
-pub fn renumber(t: &mut [u32], z: Sizes, removed: u32, last: u32) -> Answer
-    ensures { Called z (contact_edge_removed removed last) t.old result t.new }
+pub fn renumber(t: &mut [u32], z: Sizes, removed: Edge, last: Edge) -> Answer
+    ensures { Called z (contact_edge_removed removed.0 last.0) t.old result t.new }
 {
-    if !table_audit::sound(t, z) {
-        return Err(Refusal::BadTables);
-    }
-    core_renumber::renumber_on(t, z, removed, last)
+    audit(t, z)?;
+    core_renumber::renumber_on(t, z, removed.0, last.0)
 }
 
-// The high and the low 32 bits of a multibody.
-pub fn high_half(multibody: u64) -> u32
-    ensures { result ≡ multibody / 4294967296 }
+pub fn joint(t: &mut [u32], z: Sizes, key: JointKey, first: Handle, second: Handle) -> Answer
+    ensures { Called z (link_joint z (key_is key) (handle first.slot.0 first.generation) (handle second.slot.0 second.generation)) t.old result t.new }
 {
-    (multibody / 4294967296) as u32
-}
-
-pub fn low_half(multibody: u64) -> u32
-    ensures { result ≡ multibody % 4294967296 }
-{
-    (multibody % 4294967296) as u32
-}
-
-pub fn joint(t: &mut [u32], z: Sizes, key: JointKey, s1: u32, g1: u32, s2: u32, g2: u32) -> Answer
-    ensures { Called z (link_joint z (key_is key) (handle s1 g1) (handle s2 g2)) t.old result t.new }
-{
-    if !table_audit::sound(t, z) {
-        return Err(Refusal::BadTables);
-    }
-    match key {
-        JointKey::Impulse { index, generation } => {
-            core_link::link_joint_on(t, z, 0, index, generation, 0, s1, g1, s2, g2)
-        }
-        JointKey::Chain { multibody, ordinal } => {
-            let high = high_half(multibody);
-            let low = low_half(multibody);
-            core_link::link_joint_on(t, z, 1, high, low, ordinal, s1, g1, s2, g2)
-        }
-    }
+    audit(t, z)?;
+    core_link::link_joint_on(t, z, key, first, second)
 }
 
 pub fn unjoint(t: &mut [u32], z: Sizes, key: JointKey) -> Answer
     ensures { Called z (unlink_joint z (key_is key)) t.old result t.new }
 {
-    if !table_audit::sound(t, z) {
-        return Err(Refusal::BadTables);
-    }
-    match key {
-        JointKey::Impulse { index, generation } => {
-            core_joint::unlink_joint_on(t, z, 0, index, generation, 0)
-        }
-        JointKey::Chain { multibody, ordinal } => {
-            let high = high_half(multibody);
-            let low = low_half(multibody);
-            core_joint::unlink_joint_on(t, z, 1, high, low, ordinal)
-        }
-    }
+    audit(t, z)?;
+    core_joint::unlink_joint_on(t, z, key)
 }
 
 // The list has two words a handle, its slot and its generation.
 pub fn chain(t: &mut [u32], z: Sizes, multibody: u64, list: &[u32]) -> Answer
     ensures { Called z (refresh_multibody_chain z (multibody / 4294967296) (multibody % 4294967296) (handles_from list.now 0 (length list.now / 2))) t.old result t.new }
 {
-    if !table_audit::sound(t, z) {
-        return Err(Refusal::BadTables);
-    }
-    let n = list.len() / 2;
-    if n > (z.slots as usize) {
-        return Err(Refusal::JointsFull);
-    }
-    let high = high_half(multibody);
-    let low = low_half(multibody);
-    core_chain::refresh_on(t, z, high, low, list, n as u32)
+    audit(t, z)?;
+    core_chain::refresh_on(t, z, multibody, list)
 }
 
 // ---- the sleep scan
@@ -195,95 +140,67 @@ pub fn chain(t: &mut [u32], z: Sizes, multibody: u64, list: &[u32]) -> Answer
 pub fn begin(t: &mut [u32], z: Sizes) -> Answer
     ensures { Called z begin_sleep_scan t.old result t.new }
 {
-    if !table_audit::sound(t, z) {
-        return Err(Refusal::BadTables);
-    }
+    audit(t, z)?;
     core_scan::begin_on(t, z)
 }
 
-pub fn observe(t: &mut [u32], z: Sizes, i: u32, eligible: bool) -> Answer
-    ensures { Called z (observe_body_for_sleep i eligible) t.old result t.new }
+pub fn observe(t: &mut [u32], z: Sizes, island: Island, eligible: bool) -> Answer
+    ensures { Called z (observe_body_for_sleep island.0 eligible) t.old result t.new }
 {
-    if !table_audit::sound(t, z) {
-        return Err(Refusal::BadTables);
-    }
-    core_scan::observe_on(t, z, i, eligible)
+    audit(t, z)?;
+    core_scan::observe_on(t, z, island.0, eligible)
 }
 
 // The list stands at the front of the output, which is written only at the answer Done.
-pub fn finish(t: &mut [u32], z: Sizes, out: &mut [u32]) -> ListAnswer
-    ensures { Finish z t.old out.old result.answer result.length t.new out.new }
+pub fn finish(t: &mut [u32], z: Sizes, out: &mut [u32]) -> Result<u32, Refusal>
+    ensures { Finish z t.old out.old (answer_of result) (result_unwrap_or result 0) t.new out.new }
 {
-    if !table_audit::sound(t, z) {
-        return ListAnswer {
-            answer: Err(Refusal::BadTables),
-            length: 0,
-        };
-    }
+    audit(t, z)?;
     core_finish::finish_on(t, z, out)
 }
 
-pub fn sleep(t: &mut [u32], z: Sizes, i: u32) -> Answer
-    ensures { Called z (mark_island_sleeping i) t.old result t.new }
+pub fn sleep(t: &mut [u32], z: Sizes, island: Island) -> Answer
+    ensures { Called z (mark_island_sleeping island.0) t.old result t.new }
 {
-    if !table_audit::sound(t, z) {
-        return Err(Refusal::BadTables);
-    }
-    core_sleep::sleep_on(t, z, i)
+    audit(t, z)?;
+    core_sleep::sleep_on(t, z, island.0)
 }
 
-pub fn wake(t: &mut [u32], z: Sizes, i: u32) -> Answer
-    ensures { Called z (wake_island i) t.old result t.new }
+pub fn wake(t: &mut [u32], z: Sizes, island: Island) -> Answer
+    ensures { Called z (wake_island island.0) t.old result t.new }
 {
-    if !table_audit::sound(t, z) {
-        return Err(Refusal::BadTables);
-    }
-    core_sleep::wake_on(t, z, i)
+    audit(t, z)?;
+    core_sleep::wake_on(t, z, island.0)
 }
 
 // ---- the split. Its scratch is local, for at most 4,096 bodies.
 
-pub fn split(t: &mut [u32], z: Sizes, i: u32) -> Answer
+pub fn split(t: &mut [u32], z: Sizes, island: Island) -> Answer
     requires { z.slots ≤ 4096 }
-    ensures { Called z (split_island_now i) t.old result t.new }
+    ensures { Called z (split_island_now island.0) t.old result t.new }
 {
-    if !table_audit::sound(t, z) {
-        return Err(Refusal::BadTables);
-    }
-    split_island::split_on(t, z, i)
+    audit(t, z)?;
+    split_island::split_on(t, z, island.0)
 }
 
-pub fn schedule(t: &mut [u32], z: Sizes, i: u32) -> Answer
-    ensures { Called z (schedule_split i) t.old result t.new }
+pub fn schedule(t: &mut [u32], z: Sizes, island: Island) -> Answer
+    ensures { Called z (schedule_split island.0) t.old result t.new }
 {
-    if !table_audit::sound(t, z) {
-        return Err(Refusal::BadTables);
-    }
-    split_pending::schedule_on(t, z, i)
+    audit(t, z)?;
+    split_pending::schedule_on(t, z, island.0)
 }
 
 pub fn run(t: &mut [u32], z: Sizes) -> Answer
     requires { z.slots ≤ 4096 }
     ensures { Called z run_pending_split t.old result t.new }
 {
-    if !table_audit::sound(t, z) {
-        return Err(Refusal::BadTables);
-    }
+    audit(t, z)?;
     split_pending::run_on(t, z)
 }
 
-pub fn may_bid(t: &[u32], z: Sizes, i: u32) -> BidAnswer
-    ensures { Asks z (may_bid i) refused_bid t.now result }
+pub fn may_bid(t: &[u32], z: Sizes, island: Island) -> Result<bool, Refusal>
+    ensures { Asks z (may_bid island.0) refused_bid t.now result }
 {
-    if !table_audit::sound(t, z) {
-        return BidAnswer {
-            answer: Err(Refusal::BadTables),
-            yes: false,
-        };
-    }
-    let b = split_pending::may_bid(t, z, i);
-    BidAnswer {
-        answer: Ok(Outcome::Done),
-        yes: b,
-    }
+    audit(t, z)?;
+    Ok(split_pending::may_bid(t, z, island.0))
 }

@@ -14,12 +14,10 @@ pub fn set_back(t: &mut [u32], base: usize, ends: usize, i: u32, x: u32, v: u32)
     ensures { t.new ≡ back_set t.old base ends i x v }
 {
     if x == NONE {
-        let end = ends + END * (i as usize);
-        t[end + LAST] = v;
-        return;
+        t[ends + END * (i as usize) + LAST] = v;
+    } else {
+        t[base + CELL * (x as usize) + PREV] = v;
     }
-    let cell = base + CELL * (x as usize);
-    t[cell + PREV] = v;
 }
 
 // The element from, the last in use, hands its place in its list to the element to, which is in no list. The words of from stay.

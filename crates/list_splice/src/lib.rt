@@ -21,14 +21,12 @@ pub fn splice(t: &mut [u32], base: usize, ends: usize, big: u32, small: u32)
     if small_count == 0 {
         return;
     }
-    let mut left = small_count;
     let mut element = small_last;
     let mut front = NONE;
-    // One turn for each element of small: it has small_count of them, and left falls by one each turn.
-    while 0 < left {
+    // One turn for each element of small, from the last to the first: left is its place in small.
+    for left in (0..small_count).rev() {
         let cell = base + CELL * (element as usize);
         let before = t[cell + PREV];
-        left -= 1;
         t[cell] = big;
         t[cell + PLACE] = big_count + left;
         front = element;

@@ -1,4 +1,5 @@
 // Sets of places, each a tree with its root, joined smaller under larger.
+// The two lists of a forest are lent side by side: a struct that holds two &mut slices has a ghost name and a length of each to be kept by every promise.
 #![tactic(auto)]
 
 ghost use Rattle.std.specs.Prelude.{◌≡◌, List, [], ℕ, ◌≤◌, ◌<◌, length, set};
@@ -17,14 +18,11 @@ pub fn clear(parent: &mut [u32], size: &mut [u32])
     requires { (length size.old ≡ length parent.old) × (length parent.old ≤ 4096) }
     ensures { ForestStands (length parent.old) (at parent.new) (at size.new) [] }
 {
-    let n = parent.len();
-    let mut i: usize = 0;
     // One turn for each place: at most 4,096.
-    while i < n {
-        parent[i] = i as u32;
-        size[i] = 1;
-        i += 1;
+    for (i, p) in parent.iter_mut().enumerate() {
+        *p = i as u32;
     }
+    size.fill(1);
 }
 
 // The root of i, which is at most height steps away. It calls itself on the parent, with one step less remaining: at most height times.
@@ -36,8 +34,7 @@ pub fn root(parent: &&[u32], i: u32, height: u32) -> u32
     if height == 0 {
         return i;
     }
-    let k = i as usize;
-    let p = parent[k];
+    let p = parent[i as usize];
     if p == i {
         return i;
     }
@@ -58,8 +55,7 @@ fn lift(parent: &mut [u32], i: u32) -> u32
     ensures { Lifted parent.old parent.new i result }
 {
     let r = root_of(parent, i);
-    let k = i as usize;
-    parent[k] = r;
+    parent[i as usize] = r;
     r
 }
 
@@ -68,9 +64,7 @@ fn share_parent(parent: &[u32], a: u32, b: u32) -> bool
     requires { (a < length parent.now) × (b < length parent.now) }
     ensures { Is result (at parent.now a ≡ at parent.now b) }
 {
-    let i = a as usize;
-    let j = b as usize;
-    parent[i] == parent[j]
+    parent[a as usize] == parent[b as usize]
 }
 
 // Hangs the root small under the root large, whose tree then has so many members.
@@ -78,10 +72,8 @@ fn hang(parent: &mut [u32], size: &mut [u32], small: u32, large: u32, members: u
     requires { (small < length parent.old) × (large < length size.old) }
     ensures { (parent.new ≡ set parent.old small large) × (size.new ≡ set size.old large members) }
 {
-    let i = small as usize;
-    let j = large as usize;
-    parent[i] = large;
-    size[j] = members;
+    parent[small as usize] = large;
+    size[large as usize] = members;
 }
 
 // Joins the trees of a and b, the smaller under the larger, b's under a's where they are equal. Says whether they were apart.
@@ -98,16 +90,14 @@ pub fn join(parent: &mut [u32], size: &mut [u32], a: u32, b: u32) -> bool
     if root_a == root_b {
         return false;
     }
-    let i = root_a as usize;
-    let j = root_b as usize;
-    let size_a = size[i];
-    let size_b = size[j];
+    let size_a = size[root_a as usize];
+    let size_b = size[root_b as usize];
     let both = size_a + size_b;
     if size_a < size_b {
         hang(parent, size, root_a, root_b, both);
-        return true;
+    } else {
+        hang(parent, size, root_b, root_a, both);
     }
-    hang(parent, size, root_b, root_a, both);
     true
 }
 
@@ -116,50 +106,30 @@ pub fn keep(parent: &[u32], size: &[u32]) -> u32
     requires { Wood parent.now size.now }
     ensures { (ls : List (ℕ × ℕ)) → Groups ls (length parent.now) (root_of (at parent.now)) → result ≡ keep_label (label ls (length parent.now)) }
 {
-    let n = parent.len();
-    let mut best: u32 = 0;
-    let mut top: u32 = 0;
-    let mut i: usize = 0;
+    let mut best = 0;
+    let mut top = 0;
     // One turn for each place: at most 4,096.
-    while i < n {
-        let k = i as u32;
+    for k in 0..parent.len() as u32 {
         let r = root_of(parent, k);
-        let j = r as usize;
-        let s = size[j];
+        let s = size[r as usize];
         if top < s {
             top = s;
             best = k;
         }
-        i += 1;
     }
     best
 }
 
-// No place at any word.
-fn blank(xs: &mut [u32])
-    ensures { (k : ℕ) → k < length xs.old → at xs.new k ≡ none }
-{
-    let n = xs.len();
-    let mut i: usize = 0;
-    // One turn for each word: as many as the slice has.
-    while i < n {
-        xs[i] = NONE;
-        i += 1;
-    }
-}
-
-// What stands at r, or k where nothing does, which is then put there.
+// What stands at r, or k where nothing does, which is then put there. NONE is nothing: the words later hold goals (split_island), and an Option takes two words.
 fn lead(first: &mut [u32], r: u32, k: u32) -> u32
     requires { r < length first.old }
     ensures { Led first.old first.new r k result }
 {
     let j = r as usize;
-    let f = first[j];
-    if f == NONE {
+    if first[j] == NONE {
         first[j] = k;
-        return k;
     }
-    f
+    first[j]
 }
 
 // The labels that the forest gives. first is scratch: at a root, the first place of its tree.
@@ -167,14 +137,11 @@ pub fn name(parent: &[u32], first: &mut [u32], labels: &mut [u32])
     requires { NameReady parent.now first.old labels.old }
     ensures { (ls : List (ℕ × ℕ)) → Groups ls (length parent.now) (root_of (at parent.now)) → labels.new ≡ label ls (length parent.now) }
 {
-    blank(first);
-    let n = parent.len();
-    let mut i: usize = 0;
+    first.fill(NONE);
     // One turn for each place: at most 4,096.
-    while i < n {
+    for (i, label) in labels.iter_mut().enumerate() {
         let k = i as u32;
         let r = root_of(parent, k);
-        labels[i] = lead(first, r, k);
-        i += 1;
+        *label = lead(first, r, k);
     }
 }

@@ -1,13 +1,13 @@
 -- A body goes to another island.
 use mathlib.Core.Path.{◌≡◌, refl, sym, ◌∙◌, ap, subst}
-use mathlib.Core.Logic.{◌⊎◌, inl, inr, ◌≢◌, ⊎_elim}
+use mathlib.Core.Logic.{inl, inr, ◌≢◌, ⊎_elim}
 use mathlib.Core.List.{List, [], ◌∷◌, ◌++◌}
-use Prim.Native.Nat.{ℕ, ◌+◌, ◌-◌, ◌*◌, ◌≤◌, ◌<◌}
+use Prim.Native.Nat.{ℕ, ◌+◌, ◌*◌, ◌<◌}
 use native.Mathlib.Omega.{arith}
-use lib.ListN.{length, get_or, set}
+use lib.ListN.{length, get_or}
 use lib.Seq.{get_or-set_other}
 use Rattle.list_in_table.specs.Rules.{none, View, Held, list_of, swap_remove as taken_out}
-use Rattle.list_in_table.specs.Table.{view, removed, pushed, PushReady, RemoveReady}
+use Rattle.list_in_table.specs.Table.{removed, pushed, PushReady, RemoveReady}
 use Rattle.list_in_table.proofs.Laws.{either, held}
 use Rattle.list_in_table.proofs.Order.{list-of}
 use Rattle.list_in_buffer.specs.Part.{Put}
@@ -17,14 +17,13 @@ use Rattle.def_state.specs.World.{Island, absent_island, World, island_at}
 use Rattle.def_state.specs.Fields.{island_set, members_set}
 use Rattle.def_state.specs.Split.{body_moved}
 use Rattle.table_meaning.specs.Layout.{Tables, tables, total, members_at, members_span, members_put, Extents, extents, members_in}
-use Rattle.table_meaning.specs.Decode.{tabulate, island_in, decode}
+use Rattle.table_meaning.specs.Decode.{island_in, decode}
 use Rattle.table_meaning.specs.Sound.{SlotAt}
-use Rattle.table_meaning.specs.Does.{SameBehind}
 use Rattle.table_meaning.proofs.Puts.{put-members}
 use Rattle.table_meaning.proofs.Chains.{remove_ready}
 use Rattle.table_meaning.proofs.Tab.{tabulate-two}
 use Rattle.table_meaning.proofs.Frame.{larger-refl, kept-members}
-use Rattle.core_laws.specs.Loose.{OpenAt, LooseAt, Loose, Loosely, EntryLeft}
+use Rattle.core_laws.specs.Loose.{OpenAt, LooseAt, Loose, EntryLeft}
 use Rattle.core_laws.proofs.Good.{island-is, world_is, slot-rule}
 use Rattle.core_laws.proofs.Loose.{loose-rule, lives-open, moves-at}
 use Rattle.core_laws.proofs.Names.{island-at}

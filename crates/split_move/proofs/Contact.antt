@@ -1,13 +1,13 @@
 -- A contact link goes to another island.
 use mathlib.Core.Path.{◌≡◌, refl, sym, ◌∙◌, ap, subst}
-use mathlib.Core.Logic.{◌⊎◌, inl, inr, ◌≢◌, ⊎_elim}
+use mathlib.Core.Logic.{inl, inr, ◌≢◌, ⊎_elim}
 use mathlib.Core.List.{List, [], ◌∷◌, ◌++◌, map, map-append}
-use Prim.Native.Nat.{ℕ, ◌+◌, ◌-◌, ◌*◌, ◌≤◌, ◌<◌}
+use Prim.Native.Nat.{ℕ, ◌*◌, ◌<◌}
 use native.Mathlib.Omega.{arith}
-use lib.ListN.{length, get_or, set}
+use lib.ListN.{length, get_or}
 use lib.Seq.{get_or-set_other}
 use Rattle.list_in_table.specs.Rules.{none, View, Held, list_of}
-use Rattle.list_in_table.specs.Table.{view, removed, pushed, PushReady, RemoveReady}
+use Rattle.list_in_table.specs.Table.{removed, pushed, PushReady, RemoveReady}
 use Rattle.list_in_table.proofs.Laws.{either, held}
 use Rattle.list_in_table.proofs.Order.{length-list}
 use Rattle.list_in_buffer.specs.Part.{Put}
@@ -17,16 +17,13 @@ use Rattle.def_state.specs.World.{ContactLink, absent_contact, Island, absent_is
 use Rattle.def_state.specs.Fields.{island_set, contacts_set}
 use Rattle.def_state.specs.Links.{contact_pushed, contact_removed}
 use Rattle.table_meaning.specs.Layout.{Tables, tables, total, contacts_at, contacts_span, contacts_put, Extents, extents, contacts_in}
-use Rattle.table_meaning.specs.Decode.{contact_at, tabulate, island_in, decode}
-use Rattle.table_meaning.specs.Rule.{Untouched}
-use Rattle.table_meaning.specs.Sound.{EdgeAt}
-use Rattle.table_meaning.specs.Does.{SameBehind}
+use Rattle.table_meaning.specs.Decode.{contact_at, island_in, decode}
 use Rattle.table_meaning.proofs.Puts.{put-contacts}
 use Rattle.table_meaning.proofs.Chains.{remove_ready}
 use Rattle.table_meaning.proofs.Tab.{tabulate-two}
 use Rattle.table_meaning.proofs.Frame.{larger-refl, kept-contacts}
 use Rattle.core_laws.specs.Drops.{Stays, JointsStay}
-use Rattle.core_laws.specs.Loose.{OpenAt, LooseAt, Loose, Loosely, EntryLeft}
+use Rattle.core_laws.specs.Loose.{OpenAt, LooseAt, Loose, EntryLeft}
 use Rattle.core_laws.proofs.Good.{island-is, world_is}
 use Rattle.core_laws.proofs.Loose.{loose-rule, moves-at}
 use Rattle.core_laws.proofs.Names.{island-at}

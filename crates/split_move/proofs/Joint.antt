@@ -1,13 +1,13 @@
 -- A joint link goes to another island; its place of the key table stays its own.
 use mathlib.Core.Path.{◌≡◌, refl, sym, ◌∙◌, ap, subst}
-use mathlib.Core.Logic.{◌⊎◌, inl, inr, ◌≢◌, ⊎_elim}
+use mathlib.Core.Logic.{inl, inr, ◌≢◌, ⊎_elim}
 use mathlib.Core.List.{List, [], ◌∷◌, ◌++◌, map, map-append}
-use Prim.Native.Nat.{ℕ, ◌+◌, ◌-◌, ◌*◌, ◌≤◌, ◌<◌}
+use Prim.Native.Nat.{ℕ, ◌+◌, ◌*◌, ◌<◌}
 use native.Mathlib.Omega.{arith}
-use lib.ListN.{length, get_or, set}
+use lib.ListN.{length, get_or}
 use lib.Seq.{get_or-set_other}
 use Rattle.list_in_table.specs.Rules.{none, View, Held, list_of}
-use Rattle.list_in_table.specs.Table.{view, removed, pushed, PushReady, RemoveReady}
+use Rattle.list_in_table.specs.Table.{removed, pushed, PushReady, RemoveReady}
 use Rattle.list_in_table.proofs.Laws.{either, held}
 use Rattle.list_in_table.proofs.Order.{length-list}
 use Rattle.list_in_buffer.specs.Part.{Put}
@@ -18,16 +18,15 @@ use Rattle.def_state.specs.Fields.{island_set, joints_set}
 use Rattle.def_state.specs.Links.{joint_pushed}
 use Rattle.def_state.specs.Split.{joint_moved}
 use Rattle.table_meaning.specs.Layout.{Tables, tables, total, joints_at, joints_span, joints_put, Extents, extents, joints_in, spare_in}
-use Rattle.table_meaning.specs.Decode.{joint_at, tabulate, island_in, decode}
-use Rattle.table_meaning.specs.Rule.{JointRule, Unkeyed, Keyed}
+use Rattle.table_meaning.specs.Decode.{joint_at, island_in, decode}
+use Rattle.table_meaning.specs.Rule.{JointRule, Keyed}
 use Rattle.table_meaning.specs.Sound.{JointAt}
-use Rattle.table_meaning.specs.Does.{SameBehind}
 use Rattle.table_meaning.proofs.Puts.{put-joints}
 use Rattle.table_meaning.proofs.Chains.{remove_ready}
 use Rattle.table_meaning.proofs.Tab.{tabulate-two}
 use Rattle.table_meaning.proofs.Frame.{larger-refl, kept-joints}
 use Rattle.core_laws.specs.Drops.{Stays, ContactsStay}
-use Rattle.core_laws.specs.Loose.{OpenAt, LooseAt, Loose, Loosely, EntryLeft}
+use Rattle.core_laws.specs.Loose.{OpenAt, LooseAt, Loose, EntryLeft}
 use Rattle.core_laws.proofs.Good.{island-is, world_is}
 use Rattle.core_laws.proofs.Loose.{loose-rule, moves-at}
 use Rattle.core_laws.proofs.Names.{island-at}

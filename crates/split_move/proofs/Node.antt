@@ -1,28 +1,25 @@
 -- The place of a body among the bodies of an island, in the words of the tables.
-use mathlib.Core.Path.{◌≡◌, refl, sym, ◌∙◌, ap, subst}
-use mathlib.Core.Logic.{◌⊎◌, inl, inr, ◌≢◌, ⊎_elim}
-use mathlib.Core.Bool.{Bool, true, false}
+use mathlib.Core.Path.{◌≡◌, sym, ◌∙◌, ap, subst}
+use mathlib.Core.Logic.{◌≢◌}
+use mathlib.Core.Bool.{true, false}
 use mathlib.Core.List.{List}
 use Prim.Native.Nat.{ℕ, ◌+◌, ◌*◌, ◌≤◌, ◌<◌}
 use native.Mathlib.Omega.{arith}
-use lib.ListN.{length, get_or}
-use lib.Dec.{eqb, ltb}
+use lib.ListN.{get_or}
 use borrow.Author.Tests.{eq-eqb, ne_eqb, lt-ltb, le-ltb}
-use Rattle.list_in_table.specs.Rules.{none, list_of}
+use Rattle.list_in_table.specs.Rules.{list_of}
 use Rattle.list_in_table.specs.Table.{view}
-use Rattle.def_kinds.specs.Choice.{pick}
-use Rattle.list_in_table.proofs.Laws.{either, held_in}
+use Rattle.list_in_table.proofs.Laws.{either}
 use Rattle.list_in_table.proofs.Same.{below}
 use Rattle.def_kinds.specs.declared.Sizes.{Sizes}
-use Rattle.def_state.specs.Plain.{top, place_of}
-use Rattle.def_state.specs.World.{Handle, Island, World, island_at, named, island_of, body_island}
+use Rattle.def_state.specs.Plain.{top}
+use Rattle.def_state.specs.World.{Handle, Island, World, island_at, named, body_island}
 use Rattle.def_state.specs.Split.{node_of}
 use Rattle.table_meaning.specs.Layout.{Tables, tables, Extents, extents, members_in}
 use Rattle.table_meaning.specs.Decode.{world_of, decode}
 use Rattle.table_meaning.specs.Sound.{Sound}
 use Rattle.core_laws.specs.Steps.{handle}
 use Rattle.core_laws.specs.Loose.{BodiesStay}
-use Rattle.core_laws.specs.Drops.{Stays}
 use Rattle.core_laws.proofs.Names.{island-at, named-absent, named-far, named-at, island-of, place-of}
 use Rattle.split_move.specs.Shift.{node_at}
 

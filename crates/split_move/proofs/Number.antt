@@ -1,13 +1,13 @@
 -- A number is taken for a new island.
 use mathlib.Core.Path.{◌≡◌, refl, sym, ◌∙◌, ap, subst}
-use mathlib.Core.Logic.{◌⊎◌, inl, inr, ◌≢◌, ⊎_elim}
-use mathlib.Core.Bool.{Bool, true, false}
+use mathlib.Core.Logic.{inl, ◌≢◌}
+use mathlib.Core.Bool.{Bool}
 use mathlib.Core.List.{List, [], ◌∷◌, ◌++◌}
-use Prim.Native.Nat.{ℕ, zero, suc, ◌+◌, ◌-◌, ◌*◌, ◌≤◌, ◌<◌}
+use Prim.Native.Nat.{ℕ, ◌+◌, ◌*◌, ◌≤◌, ◌<◌}
 use native.Mathlib.Omega.{arith}
 use lib.ListN.{length, get_or, set}
 use lib.Seq.{get_or-set_same, get_or-set_other}
-use Rattle.list_in_table.specs.Rules.{none, View, list_of}
+use Rattle.list_in_table.specs.Rules.{none, list_of}
 use Rattle.list_in_table.specs.Table.{view, Wf, removed, RemoveReady}
 use Rattle.def_kinds.specs.Choice.{pick}
 use Rattle.list_in_table.proofs.Laws.{either}
@@ -15,25 +15,22 @@ use Rattle.list_in_table.proofs.Order.{length-list}
 use Rattle.list_in_buffer.specs.Part.{Put}
 use Rattle.def_kinds.specs.declared.Sizes.{Sizes}
 use Rattle.def_state.specs.Plain.{top, empty, drop_last, last_of}
-use Rattle.def_state.specs.World.{Island, absent_island, World}
+use Rattle.def_state.specs.World.{absent_island, World}
 use Rattle.def_state.specs.Fields.{islands_set, free_set, island_set}
 use Rattle.def_state.specs.Membership.{new_number, alloc_island}
 use Rattle.def_state.specs.Split.{new_island}
-use Rattle.table_meaning.specs.Layout.{Tables, tables, total, rows_at, rows_span, freed_at, freed_span, rows_put, freed_put, Extents, extents, members_in, contacts_in, joints_in, freed_in}
+use Rattle.table_meaning.specs.Layout.{Tables, tables, total, rows_at, rows_span, freed_at, freed_span, rows_put, freed_put, Extents, extents, members_in, freed_in}
 use Rattle.table_meaning.specs.Decode.{flag, island_in, decode, world_of}
-use Rattle.table_meaning.specs.Rule.{Freed}
 use Rattle.table_meaning.specs.Does.{SameBehind}
 use Rattle.table_meaning.proofs.Puts.{Sized, sized, put-rows, put-freed}
 use Rattle.table_meaning.proofs.Chains.{nil}
 use Rattle.table_meaning.proofs.Tab.{tabulate-set}
 use Rattle.table_meaning.proofs.Frame.{larger-refl, kept_then, kept-rows, kept-freed}
-use Rattle.table_meaning.proofs.Unique.{islands-is}
 use Rattle.core_laws.specs.Steps.{one_island, readied}
-use Rattle.core_laws.specs.Loose.{OpenAt, LooseAt, Loose, Loosely, Moves, BodiesStay, MadeReady}
+use Rattle.core_laws.specs.Loose.{OpenAt, LooseAt, Loose, Loosely, BodiesStay, MadeReady}
 use Rattle.core_laws.proofs.Good.{island-is, world_is}
 use Rattle.core_laws.proofs.Loose.{loose-rule, moves-at, moves-as, moves-then}
-use Rattle.core_laws.proofs.Isle.{set-aside, aside}
-use Rattle.core_laws.proofs.Found.{il, home-0, held, take-ready, freed, Q, rest, number}
+use Rattle.core_laws.proofs.Found.{il, held, take-ready, freed, Q, rest, number}
 use Rattle.core_laws.proofs.GrowIsland.{free-count}
 use Rattle.split_move.specs.Shift.{reserved, NumberTaken}
 

@@ -1,13 +1,12 @@
 -- An element of a chain table goes to the end of another list.
-use mathlib.Core.Path.{◌≡◌, refl, sym, ◌∙◌, ap, subst}
+use mathlib.Core.Path.{◌≡◌, sym, ◌∙◌, ap}
 use mathlib.Core.Logic.{◌≢◌}
 use mathlib.Core.List.{List, [], ◌∷◌, ◌++◌}
 use Prim.Native.Nat.{ℕ, ◌+◌, ◌*◌, ◌<◌}
 use native.Mathlib.Omega.{arith}
-use lib.ListN.{length, get_or}
+use lib.ListN.{get_or}
 use Rattle.list_in_table.specs.Rules.{none, View, list_of, swap_remove}
 use Rattle.list_in_table.specs.Table.{view, Wf, removed, pushed, PushReady}
-use Rattle.list_in_table.proofs.Laws.{either}
 use Rattle.table_meaning.specs.Does.{ChainKept}
 use Rattle.table_meaning.proofs.Chains.{Added, Taken, added, taken, push_ready, chain-then}
 use Rattle.core_laws.specs.Loose.{EntryLeft}

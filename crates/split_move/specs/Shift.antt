@@ -1,9 +1,9 @@
 -- A link or a body of an island goes to another island, by swap removal; a number is taken for a new island; the place of a body, in the words of the tables.
-use Rattle.std.specs.Prelude.{◌≡◌, ◌≢◌, Bool, List, [], ◌∷◌, ◌++◌, ℕ, ◌+◌, ◌*◌, ◌≤◌, ◌<◌, length, get_or, eqb, ltb}
-use Rattle.list_in_table.specs.Rules.{none, list_of}
+use Rattle.std.specs.Prelude.{◌≡◌, ◌≢◌, Bool, List, ℕ, ◌+◌, ◌*◌, ◌<◌, get_or, eqb, ltb}
+use Rattle.list_in_table.specs.Rules.{none}
 use Rattle.def_kinds.specs.Choice.{pick}
 use Rattle.def_kinds.specs.declared.Sizes.{Sizes}
-use Rattle.def_state.specs.Plain.{top, swap_remove}
+use Rattle.def_state.specs.Plain.{top}
 use Rattle.def_state.specs.World.{Handle, absent_contact, World, island_at}
 use Rattle.def_state.specs.Fields.{island_set}
 use Rattle.def_state.specs.Membership.{new_number, alloc_island}

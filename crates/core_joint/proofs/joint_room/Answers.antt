@@ -4,9 +4,9 @@ use Rattle.core_laws.proofs.GrowPlace.{joint-room, spare-le}
 use Rattle.core_joint.proofs.joint_room.Goals as goal
 
 pub overflow_add-result : goal.overflow_add-result
-overflow_add-result c = omega (arith, c.get-in_use.ensures.0, c.count-spare.ensures.0, spare-le c.requires, c.requires.good.joints_le, c.struct_known-1)
+overflow_add-result c = omega (arith, c.get-in_use.ensures.0, c.count-spare.ensures.0, spare-le c.requires, c.requires.good.joints_le)
 
 pub returns : goal.returns
 returns c =
     let e = joint-room c.requires in
-    (omega (arith, c.get-in_use.ensures.0, c.count-spare.ensures.0, e), omega (arith, c.struct_known-1.given))
+    (omega (arith, c.get-in_use.ensures.0, c.count-spare.ensures.0, e), omega arith)

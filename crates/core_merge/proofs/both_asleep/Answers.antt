@@ -1,11 +1,9 @@
-use Rattle.core_merge.proofs.Laws.{first-awake, second-awake, asleep}
+use Rattle.std.proofs.Common.{arith}
+use Rattle.std.proofs.lemmas.Bool.Decides.{nat_tests}
+use Rattle.core_laws.specs.Merging.{both_asleep}
 use Rattle.core_merge.proofs.both_asleep.Goals as goal
-
-pub returns-then-a-ne1 : goal.returns-then-a-ne1
-returns-then-a-ne1 c = first-awake c.args.a c.args.b c.if-a-ne1.true
-
-pub returns-then-b-ne1 : goal.returns-then-b-ne1
-returns-then-b-ne1 c = second-awake c.args.a c.args.b c.if-a-ne1.false c.if-b-ne1.true
+use Rattle.core_merge.proofs.both_asleep.Goals.{then-a-eq1, else-a-eq1}
 
 pub returns : goal.returns
-returns c = asleep c.args.a c.args.b c.if-a-ne1.false c.if-b-ne1.false
+unfolding both_asleep
+returns c = elim c.if-a-eq1.branch [ then-a-eq1 w ↦ grind (arith, nat_tests) | else-a-eq1 w ↦ grind (arith, nat_tests) ]

@@ -1,5 +1,4 @@
 -- `list_splice::splice` meets its contract. The loop's invariant is `Walk`, and its measure the elements that are left. Assumes nothing.
-use borrow.Author.Rules.{rules}
 use native.Mathlib.Omega.{arith}
 use borrow.Author.Tests.{eq-eqb, ne_eqb}
 use Prim.Native.Nat.{ℕ, ◌+◌, ◌*◌, ◌≤◌}

@@ -1,10 +1,9 @@
--- `split_forest::clear` meets its contract. The loop's invariant: each place passed is its own parent, with size 1. Assumes nothing.
+-- `split_forest::clear` meets its contract. The loop's invariant: each place passed is its own parent. Assumes nothing.
+use mathlib.Core.Path.{refl}
 use native.Mathlib.Omega.{arith}
-use borrow.Author.Rules.{rules}
 use Rattle.split_forest.proofs.Fresh.{fresh}
 use Rattle.split_forest.proofs.clear.Goals as goal
 
 pub returns : goal.returns
 returns c =
-    let v = c.loop-i.invariant in
-    fresh _ _ _ (search rules) (λ i l. v.4 i (omega arith)) (λ i l. v.5 i (omega arith))
+    fresh _ _ _ c.requires.1 (λ i l. c.loop-i.invariant i (omega arith)) (λ i l. c.fill.ensures.clones i 0 (omega arith) refl)

@@ -12,11 +12,11 @@ lift-root_b-requires c = second-ready c.requires c.lift-root_a.ensures
 pub returns-then-root_a-root_b : goal.returns-then-root_a-root_b
 returns-then-root_a-root_b c = lifted-one c.requires c.lift-root_a.ensures c.lift-root_b.ensures c.if-root_a-root_b.true
 
-pub bounds-size-i : goal.bounds-size-i
-bounds-size-i c = (seen-a c.requires c.lift-root_a.ensures c.lift-root_b.ensures).1
+pub bounds-size-root_a : goal.bounds-size-root_a
+bounds-size-root_a c = (seen-a c.requires c.lift-root_a.ensures c.lift-root_b.ensures).1
 
-pub bounds-size-j : goal.bounds-size-j
-bounds-size-j c = (seen_b c.requires c.lift-root_a.ensures c.lift-root_b.ensures).1
+pub bounds-size-root_b : goal.bounds-size-root_b
+bounds-size-root_b c = (seen_b c.requires c.lift-root_a.ensures c.lift-root_b.ensures).1
 
 pub overflow_add-both : goal.overflow_add-both
 overflow_add-both c =
@@ -30,8 +30,8 @@ hang-requires c = ((seen-a c.requires c.lift-root_a.ensures c.lift-root_b.ensure
 pub returns-then-size_a-size_b : goal.returns-then-size_a-size_b
 returns-then-size_a-size_b c = rw (c.hang.ensures.0, c.hang.ensures.1) (lifted-less c.requires c.lift-root_a.ensures c.lift-root_b.ensures c.if-root_a-root_b.false c.if-size_a-size_b.true)
 
-pub hang-requires-2 : goal.hang-requires-2
-hang-requires-2 c = ((seen_b c.requires c.lift-root_a.ensures c.lift-root_b.ensures).0, (seen-a c.requires c.lift-root_a.ensures c.lift-root_b.ensures).1)
+pub hang-requires-else-size_a-size_b : goal.hang-requires-else-size_a-size_b
+hang-requires-else-size_a-size_b c = ((seen_b c.requires c.lift-root_a.ensures c.lift-root_b.ensures).0, (seen-a c.requires c.lift-root_a.ensures c.lift-root_b.ensures).1)
 
-pub returns : goal.returns
-returns c = rw (c.hang-2.ensures.0, c.hang-2.ensures.1) (lifted-else c.requires c.lift-root_a.ensures c.lift-root_b.ensures c.if-root_a-root_b.false c.if-size_a-size_b.false)
+pub returns-else-size_a-size_b : goal.returns-else-size_a-size_b
+returns-else-size_a-size_b c = rw (c.hang-else-size_a-size_b.ensures.0, c.hang-else-size_a-size_b.ensures.1) (lifted-else c.requires c.lift-root_a.ensures c.lift-root_b.ensures c.if-root_a-root_b.false c.if-size_a-size_b.false)

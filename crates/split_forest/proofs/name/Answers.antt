@@ -3,8 +3,7 @@
 use mathlib.Core.Path.{◌≡◌, refl, sym, ◌∙◌}
 use Prim.Native.Nat.{ℕ, ◌≤◌, ◌<◌}
 use native.Mathlib.Omega.{arith}
-use borrow.Author.Rules.{rules}
-use lib.ListN.{length, length-set}
+use lib.ListN.{length}
 use lib.Seq.{ext_get_or}
 use Rattle.def_state.specs.Connected.{label}
 use Rattle.split_forest.specs.Forest.{at, root_of, Led}
@@ -17,15 +16,8 @@ use Rattle.split_forest.proofs.name.Goals as goal
 
 pub loop-i-init : goal.loop-i-init
 loop-i-init c =
-    let N = c.requires in
-    let k = c.blank.auto.xs in
-    let f = N.first_long in (
-      search rules,
-      refl,
-      k ∙ f,
-      N.labels_long,
-      (λ ls G. (come-none (at (label ls (length c.args.parent.now))) _ _ c.blank.new.xs (name-lt G) (λ j l. c.blank.ensures j (omega arith)), λ j l. absurd (omega arith))),
-    )
+    λ ls G.
+    (come-none (at (label ls (length c.args.parent.now))) _ _ c.fill.new.self (name-lt G) (λ j l. c.fill.ensures.clones j 0 (omega arith) refl), λ j l. absurd (omega arith))
 
 pub lead-requires : goal.lead-requires
 lead-requires c =
@@ -36,26 +28,19 @@ lead-requires c =
 pub loop-i-preserved : goal.loop-i-preserved
 unfolding root_of
 loop-i-preserved c =
-    let v = c.loop-i.invariant in
     let n : ℕ = length c.args.parent.now in
     let small : n ≤ 4096 = c.requires.n_small in
     let il : c.loop-i.i < n = omega arith in
     let long : length c.loop-i.first ≡ n = omega arith in
     let E : Led c.loop-i.first c.lead.new.first (root_of (at c.args.parent.now) c.loop-i.i) c.loop-i.i c.lead.result =
-    rw c.root_of-r.ensures at c.lead.ensures in (
-      search rules,
-      refl,
-      c.lead.auto.first ∙ v.2,
-      simp length-set v.3,
-      (λ ls G.
-          let h = v.4 ls G in
-          let r = led G small il long h.0 E in
-          (r.1, rw r.0 (set_below (at (label ls n)) c.loop-i.labels c.loop-i.i (omega arith) h.1))),
-    )
+    rw c.root_of-r.ensures at c.lead.ensures in
+    λ ls G.
+    let h = c.loop-i.invariant ls G in
+    let r = led G small il long h.0 E in
+    (r.1, rw r.0 (set_below (at (label ls n)) c.loop-i.labels c.loop-i.i (omega arith) h.1))
 
 pub returns : goal.returns
 returns c =
     λ ls G.
-    let v = c.loop-i.invariant in
     let n : ℕ = length c.args.parent.now in
-    ext_get_or 0 c.loop-i.labels (label ls n) (v.3 ∙ sym (length_label ls n)) (λ k l. (v.4 ls G).1 k (omega arith))
+    ext_get_or 0 c.loop-i.labels (label ls n) (c.loop-i.auto.labels ∙ c.requires.labels_long ∙ sym (length_label ls n)) (λ k l. (c.loop-i.invariant ls G).1 k (omega arith))

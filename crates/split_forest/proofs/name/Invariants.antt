@@ -1,5 +1,5 @@
 use mathlib.Core.Path.{◌≡◌}
-use Prim.Native.Nat.{ℕ, ◌≤◌, ◌<◌, ◌-◌}
+use Prim.Native.Nat.{ℕ, ◌<◌}
 use mathlib.Core.List.{List}
 use lib.ListN.{length}
 use Rattle.def_state.specs.Connected.{label}
@@ -10,10 +10,6 @@ use Rattle.split_forest.proofs.name.Given as goal
 
 abbrev pub invariant-loop-i : goal.invariant-loop-i
 invariant-loop-i l =
-    (l.i ≤ l.n) × (l.n ≡ length l.parent) × (length l.first ≡ l.n) × (length l.labels ≡ l.n)
-    × ((ls : List (ℕ × ℕ)) → Groups ls (length l.parent) (root_of (at l.parent))
+    ((ls : List (ℕ × ℕ)) → Groups ls (length l.parent) (root_of (at l.parent))
     → Come (at (label ls (length l.parent))) (root_of (at l.parent)) (length l.parent) l.i l.first
     × ((k : ℕ) → k < l.i → at l.labels k ≡ at (label ls (length l.parent)) k))
-
-abbrev pub decreases-loop-i : goal.decreases-loop-i
-decreases-loop-i l = l.n - l.i

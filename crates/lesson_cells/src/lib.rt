@@ -1,7 +1,7 @@
 // Words of the lent buffer.
 #![tactic(auto)]
 
-ghost use Rattle.std.specs.Prelude.{◌≡◌, ◌+◌, ◌*◌, get_or};
+ghost use Rattle.std.specs.Prelude.{◌≡◌, ℕ, ◌+◌, ◌*◌, ◌<◌, get_or, drop};
 
 // The word at `i`, and 0 behind the end: no index is wrong, so that damaged tables can be read too.
 pub fn word(t: &[u32], i: usize) -> u32
@@ -10,19 +10,41 @@ pub fn word(t: &[u32], i: usize) -> u32
     t.get(i).copied().unwrap_or(0)
 }
 
-// A table among the words: where it begins, and how many words each of its entries has.
+// A table among the words, from `base` on, whose entries have WIDTH words each.
 #[derive(Clone, Copy, Debug, PartialEq, Eq)]
-pub struct Table {
+pub struct Table<const WIDTH: usize> {
     pub base: u32,
-    pub width: u32,
 }
 
-impl Table {
-    // The word `field` of the entry `e`. No such sum is over 64 bits.
-    pub fn cell(self, t: &[u32], e: u32, field: u32) -> u32
-        ensures { result ≡ get_or t.now (self.base + self.width * e + field) 0 }
+impl<const WIDTH: usize> Table<WIDTH> {
+    // The words from the entry `e` on. No such place is over 64 bits.
+    fn from<'a>(self, t: &'a [u32], e: u32) -> &'a [u32]
+        requires { WIDTH < 4294967296 }
+        ensures { result.now ≡ drop (self.entry.base + WIDTH * e) t.now }
     {
-        let entry = self.base as usize + self.width as usize * e as usize;
-        word(t, entry + field as usize)
+        let at = self.base as usize + WIDTH * e as usize;
+        t.get(at..).unwrap_or(&[])
+    }
+
+    // The word `field` of the entry `e`.
+    pub fn cell(self, t: &[u32], e: u32, field: usize) -> u32
+        requires { WIDTH < 4294967296 }
+        ensures { result ≡ get_or t.now (self.entry.base + WIDTH * e + field) 0 }
+    {
+        word(self.from(t, e), field)
+    }
+
+    // The words of the entry `e`.
+    pub fn row(self, t: &[u32], e: u32) -> [u32; WIDTH]
+        requires { WIDTH < 4294967296 }
+        ensures { (k : ℕ) → k < WIDTH → get_or result k 0 ≡ get_or t.now (self.entry.base + WIDTH * e + k) 0 }
+    {
+        let words = self.from(t, e);
+        let mut row = [0; WIDTH];
+        // One turn for each word of the entry.
+        for field in 0..WIDTH {
+            row[field] = word(words, field);
+        }
+        row
     }
 }

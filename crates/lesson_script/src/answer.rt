@@ -7,6 +7,7 @@ use std::fmt;
 use std::fmt::Write;
 
 // The words of the state, and room for the numbers of a line.
+#[derive(Drop)]
 pub struct Yard<'a> {
     pub t: &'a mut [u32],
     pub list: &'a mut [u32],

@@ -59,9 +59,7 @@ pub fn parse<'a>(line: &[u8], list: &'a mut [u32]) -> Result<Option<Command<'a>>
     if let [] | [b'#', ..] = line {
         return Ok(None);
     }
-    let Ok(text) = std::str::from_utf8(line) else {
-        return Err(BadLine);
-    };
+    let text = std::str::from_utf8(line).map_err(|_| BadLine)?;
     let mut words = text.split(' ');
     let command = match words.next() {
         Some("joint") => joint(words, list)?,

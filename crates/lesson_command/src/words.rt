@@ -5,10 +5,7 @@ use std::str::Split;
 
 // A number of 64 bits.
 pub fn read_wide(word: Option<&str>) -> Result<u64, BadLine> {
-    match word {
-        Some(word) => value_of(word.as_bytes()).ok_or(BadLine),
-        None => Err(BadLine),
-    }
+    value_of(word.ok_or(BadLine)?.as_bytes()).ok_or(BadLine)
 }
 
 // A number of 32 bits.

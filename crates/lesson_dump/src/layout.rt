@@ -1,16 +1,17 @@
 // Where each table lies among the words of the state.
+use def_kinds::Sizes;
 use lesson_cells::Table;
 
-// The rig's sizes (def_kinds::Sizes::RIG).
-pub const SLOTS: u32 = 4096;
+// The rig's sizes.
+pub const SLOTS: u32 = Sizes::RIG.slots;
 
-pub const ISLANDS: u32 = 4096;
+pub const ISLANDS: u32 = Sizes::RIG.islands;
 
-pub const EDGES: u32 = 16384;
+pub const EDGES: u32 = Sizes::RIG.edges;
 
-pub const JOINTS: u32 = 4096;
+pub const JOINTS: u32 = Sizes::RIG.joints;
 
-pub const JOURNAL: u32 = 8192;
+pub const JOURNAL: u32 = Sizes::RIG.journal;
 
 // Words of the head.
 pub const SLOTS_USED: usize = 0;

@@ -4,20 +4,13 @@
 mod plain;
 mod words;
 
-use def_kinds::{Edge, Handle, Island, JointKey, Slot};
+use def_kinds::{Edge, Flags, Handle, Island, JointKey, Slot};
 use plain::plain_command;
 use std::str::Split;
 use words::{read_numbers, read_small, read_wide};
 
 // How long the output that `finish` lends is where the script does not say, and at most.
 pub const ROOM: u32 = 4096;
-
-#[derive(Clone, Copy, Debug, PartialEq, Eq)]
-pub struct Flags {
-    pub fixed: bool,
-    pub enabled: bool,
-    pub sleeping: bool,
-}
 
 #[derive(Clone, Copy)]
 pub enum Command<'a> {

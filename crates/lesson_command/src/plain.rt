@@ -1,6 +1,6 @@
 // The commands of a name and numbers of 32 bits.
-use crate::{BadLine, Command, Flags, ROOM, handle};
-use def_kinds::{Edge, Island};
+use crate::{BadLine, Command, ROOM, handle};
+use def_kinds::{Edge, Flags, Island};
 
 pub fn plain_command<'a>(name: &str, numbers: &[u32]) -> Result<Command<'a>, BadLine> {
     Ok(match (name, numbers) {

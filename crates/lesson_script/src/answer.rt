@@ -1,6 +1,6 @@
 // One line of a script: the call that it names, and the line that answers it.
 use crate::read::LONGEST_LINE;
-use def_kinds::{BidAnswer, IslandAnswer};
+use def_kinds::{Island, NONE, Refusal, number};
 use lesson_command::{BadLine, Command, ROOM, parse};
 use lesson_dump::State;
 use std::fmt;
@@ -35,9 +35,9 @@ fn write_bad_line(number: u64, out: &mut impl Write) -> fmt::Result {
 fn answer(t: &mut [u32], command: Command<'_>, out: &mut impl Write) -> fmt::Result {
     let answer = match command {
         Command::Reset => host_calls::reset(t),
-        Command::Put(h, f) => host_calls::put(t, h, f.fixed, f.enabled, f.sleeping),
+        Command::Put(h, flags) => host_calls::put(t, h, flags),
         Command::Retire(h) => host_calls::retire(t, h),
-        Command::Flags(h, f) => host_calls::flags(t, h, f.fixed, f.enabled, f.sleeping),
+        Command::Flags(h, flags) => host_calls::flags(t, h, flags),
         Command::Island(h) => return write_island(host_calls::island(t, h), out),
         Command::Ensure(h) => host_calls::ensure(t, h),
         Command::Remove(h) => host_calls::remove(t, h),
@@ -59,25 +59,39 @@ fn answer(t: &mut [u32], command: Command<'_>, out: &mut impl Write) -> fmt::Res
         Command::Wake(island) => host_calls::wake(t, island),
         Command::Dump => return write!(out, "{}", State(t)),
     };
-    writeln!(out, "{}", answer.number())
+    writeln!(out, "{}", number(answer))
 }
 
-fn write_island(a: IslandAnswer, out: &mut impl Write) -> fmt::Result {
-    writeln!(out, "{} {}", a.answer.number(), a.island.0)
+// The number of a question's answer, which is 0 where it is not refused, and the body's island or NONE.
+fn write_island(asked: Result<Option<Island>, Refusal>, out: &mut impl Write) -> fmt::Result {
+    match asked {
+        Ok(Some(island)) => writeln!(out, "0 {}", island.0),
+        Ok(None) => writeln!(out, "0 {NONE}"),
+        Err(refusal) => writeln!(out, "{} {NONE}", u32::from(refusal)),
+    }
 }
 
-fn write_bid(a: BidAnswer, out: &mut impl Write) -> fmt::Result {
-    writeln!(out, "{} {}", a.answer.number(), u8::from(a.yes))
+fn write_bid(asked: Result<bool, Refusal>, out: &mut impl Write) -> fmt::Result {
+    match asked {
+        Ok(yes) => writeln!(out, "0 {}", u8::from(yes)),
+        Err(refusal) => writeln!(out, "{} 0", u32::from(refusal)),
+    }
 }
 
 // The answer, the list's length, and the list.
 fn finish(t: &mut [u32], room: u32, out: &mut impl Write) -> fmt::Result {
     let mut list = [0; ROOM as usize];
     let n = (room as usize).min(list.len());
-    let listed = host_calls::finish(t, &mut list[..n]);
-    write!(out, "{} {}", listed.answer.number(), listed.length)?;
+    match host_calls::finish(t, &mut list[..n]) {
+        Ok(length) => write_list(&list, length, out),
+        Err(refusal) => writeln!(out, "{} 0", u32::from(refusal)),
+    }
+}
+
+fn write_list(list: &[u32], length: u32, out: &mut impl Write) -> fmt::Result {
+    write!(out, "0 {length}")?;
     // One turn for each number of the list.
-    for island in list.iter().take(listed.length as usize) {
+    for island in list.iter().take(length as usize) {
         write!(out, " {island}")?;
     }
     writeln!(out)

@@ -34,7 +34,8 @@ pub struct Script<'a, R> {
 impl<'a, R: Print + Eprint> Script<'a, R> {
     // A script over the tables of `yard`, which are reset, and whose list has room for LIST numbers.
     pub fn new(rt: &'a R, yard: Yard<'a>) -> Self {
-        host_calls::reset(yard.t);
+        // Tables of another length refuse this, and each later call.
+        let _ = host_calls::reset(yard.t);
         Script {
             yard,
             out: Output::new(rt),

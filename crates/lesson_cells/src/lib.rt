@@ -26,14 +26,6 @@ impl<const WIDTH: usize> Table<WIDTH> {
         t.get(at..).unwrap_or(&[])
     }
 
-    // The word `field` of the entry `e`.
-    pub fn cell(self, t: &[u32], e: u32, field: usize) -> u32
-        requires { WIDTH < 4294967296 }
-        ensures { result ≡ get_or t.now (self.entry.base + WIDTH * e + field) 0 }
-    {
-        word(self.from(t, e), field)
-    }
-
     // The words of the entry `e`.
     pub fn row(self, t: &[u32], e: u32) -> [u32; WIDTH]
         requires { WIDTH < 4294967296 }

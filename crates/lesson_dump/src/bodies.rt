@@ -27,7 +27,7 @@ impl State<'_> {
         if generation == NONE {
             return Ok(());
         }
-        let [island, place, _before, _after] = layout::MEMBERS.elements.row(self.0, s);
+        let [island, place, ..] = layout::MEMBERS.elements.row(self.0, s);
         write!(f, "body {s} {generation} {fixed} {enabled} {sleeping}")?;
         writeln!(f, " island {island} place {place}")
     }
@@ -36,7 +36,7 @@ impl State<'_> {
         write!(f, "lowest")?;
         // One turn for each slot in use.
         for s in 0..self.slots_used() {
-            let lowest = layout::BODIES.cell(self.0, s, 1);
+            let [_generation, lowest, ..] = layout::BODIES.row(self.0, s);
             if lowest != 0 {
                 write!(f, " {s}:{lowest}")?;
             }

@@ -26,10 +26,13 @@ impl<'a> State<'a> {
     // A list, from its first element on. To find that, it goes back from its last.
     pub(crate) fn chain(self, chains: Chains, list: u32) -> Chain<'a> {
         let elements = chains.elements;
-        let [_count, last] = chains.ends.row(self.0, list);
+        let [_count, mut next] = chains.ends.row(self.0, list);
         let left = self.count(chains, list);
         // One turn for each element but one: fewer than the capacity.
-        let next = (1..left).fold(last, |e, _| elements.cell(self.0, e, 2));
+        for _ in 1..left {
+            let [_list, _place, before, _after] = elements.row(self.0, next);
+            next = before;
+        }
         Chain {
             t: self.0,
             elements,
@@ -47,7 +50,8 @@ impl Iterator for Chain<'_> {
     fn next(&mut self) -> Option<u32> {
         self.left = self.left.checked_sub(1)?;
         let e = self.next;
-        self.next = self.elements.cell(self.t, e, 3);
+        let [_list, _place, _before, after] = self.elements.row(self.t, e);
+        self.next = after;
         Some(e)
     }
 }

@@ -48,7 +48,8 @@ impl State<'_> {
         write!(f, "  bodies")?;
         // One turn for each body of the island.
         for s in self.chain(layout::MEMBERS, island) {
-            write!(f, " {s}:{}", layout::BODIES.cell(self.0, s, 0))?;
+            let [generation, ..] = layout::BODIES.row(self.0, s);
+            write!(f, " {s}:{generation}")?;
         }
         writeln!(f)
     }

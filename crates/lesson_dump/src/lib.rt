@@ -68,7 +68,8 @@ impl State<'_> {
         write!(f, "scan open")?;
         // One turn for each island that is seen.
         for island in self.chain(layout::SEEN, 0) {
-            write!(f, " {island}:{}", layout::FIT.cell(self.0, island, 0))?;
+            let [fit] = layout::FIT.row(self.0, island);
+            write!(f, " {island}:{fit}")?;
         }
         writeln!(f)
     }

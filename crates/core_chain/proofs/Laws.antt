@@ -36,44 +36,6 @@ use Rattle.core_laws.proofs.Put.{body-word}
 use Rattle.core_laws.proofs.JointKeys.{joint-home_none, joint-home}
 use Rattle.core_laws.proofs.Chaining.{onward_then, larger-of, unlink-on, link_on, came-start, came-step, came-done, length-missing, length-linked, length-end, unlinked-step, unlinked-end, handles-more, chainable-same, chained-end, rest-first, rest-next, rest_end, rest-start, handles-length, refresh-long, refresh-full, refresh-journal, refresh-done}
 
--- ---- whom a chain links
-pick-not : (a b : Bool) → pick a false b ≡ (not a && b)
-pick-not true b = refl
-pick-not false b = refl
-
-module _ (Z : Sizes) (t : List ℕ) (s g : ℕ) where
-  abbrev w : World
-  w = world_of Z t
-
-  abbrev h : Handle
-  h = handle s g
-
-  pub chain-absent : named w h ≡ false → false ≡ chainable w h
-  unfolding chainable
-  chain-absent e = sym (rw e)
-
-  module _ (n : named w h ≡ true) where
-    pub slot-in : s < (extents (tables Z t)).slots
-    slot-in = (named_is Z t s g n).slot_lt
-
-    fixed-is : (body_of w s).fixed ≡ flag (get_or (tables Z t).slots (5 * s + 2) 0)
-    fixed-is = ap (λ (b : Body). b.fixed) (body-word Z t s slot-in)
-
-    enabled-is : (body_of w s).enabled ≡ flag (get_or (tables Z t).slots (5 * s + 3) 0)
-    enabled-is = ap (λ (b : Body). b.enabled) (body-word Z t s slot-in)
-
-    chain-words : chainable w h ≡ (not (eqb (get_or (tables Z t).slots (5 * s + 2) 0) 1) && eqb (get_or (tables Z t).slots (5 * s + 3) 0) 1)
-    unfolding chainable
-    chain-words = rw (n, fixed-is, enabled-is) (pick-not (flag (get_or (tables Z t).slots (5 * s + 2) 0)) (flag (get_or (tables Z t).slots (5 * s + 3) 0)))
-
-    -- f and e are the words of its flags
-    module _ (f : ℕ) (p : f ≡ get_or (tables Z t).slots (5 * s + 2) 0) where
-      pub chain-fixed : not (eqb f 1) ≡ false → false ≡ chainable w h
-      chain-fixed r = sym (chain-words ∙ rw (← p, r))
-
-      pub chain-enabled : (e : ℕ) → e ≡ get_or (tables Z t).slots (5 * s + 3) 0 → not (eqb f 1) ≡ true → eqb e 1 ≡ chainable w h
-      chain-enabled e q r = sym (chain-words ∙ rw (← p, ← q, r))
-
 -- ---- the body that was linked last: the absent handle names none, so a generation that is not its stands for a body
 chain-top : (w : World) (s g : ℕ) → g ≡ none → chainable w (handle s g) ≡ false
 unfolding chainable

@@ -14,17 +14,6 @@ ghost use Rattle.core_chain.specs.Linking.{present};
 use def_kinds::{Answer, Handle, JointKey, NONE, Outcome, Refusal, Sizes, Slot};
 use table_meaning::{Table, word};
 
-// Is it a live, enabled, non-fixed body?
-fn is_chainable(t: &[u32], z: Sizes, h: Handle) -> bool
-    requires { Sound z t.now }
-    ensures { result ≡ chainable (world_of z t.now) (handle h.slot.0 h.generation) }
-{
-    let at = word::SLOT * (h.slot.0 as usize);
-    core_body::is_named(t, z, h)
-        && table_words::get(t, z, Table::Slots, at + word::FIXED) != 1
-        && table_words::get(t, z, Table::Slots, at + word::ENABLED) == 1
-}
-
 // How many ordinals from 0 on are linked, up to the first that is missing.
 fn old_length(t: &[u32], z: Sizes, multibody: u64) -> u32
     requires { Sound z t.now }
@@ -58,7 +47,7 @@ fn count_chainable(t: &[u32], z: Sizes, list: &[u32]) -> usize
 {
     // One turn for each handle of the list.
     (0..list.len() / 2)
-        .filter(|k| is_chainable(t, z, handle_in(list, *k)))
+        .filter(|k| core_body::is_chainable(t, z, handle_in(list, *k)))
         .count()
 }
 
@@ -86,7 +75,7 @@ fn link_next(t: &mut [u32], z: Sizes, multibody: u64, linking: Linking, next: Ha
     requires { Sound z t.old × (linking.ordinal < none) }
     ensures { LinkedOn z (multibody / 4294967296) (multibody % 4294967296) (present linking.last.generation) linking.ordinal (handle linking.last.slot.0 linking.last.generation) (handle next.slot.0 next.generation) (present result.last.generation) result.ordinal (handle result.last.slot.0 result.last.generation) t.old t.new }
 {
-    if !is_chainable(t, z, next) {
+    if !core_body::is_chainable(t, z, next) {
         return linking;
     }
     let Linking { last, ordinal } = linking;

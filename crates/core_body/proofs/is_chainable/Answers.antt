@@ -1,10 +1,10 @@
--- `core_chain::is_chainable` meets its contract. A body that is not named is not chained; else its two flags decide, by the words of its slot. Assumes nothing.
+-- `core_body::is_chainable` meets its contract. A body that is not named is not chained; else its two flags decide, by the words of its slot. Assumes nothing.
 use native.Mathlib.Omega.{arith}
 use mathlib.Core.Path.{sym, ◌∙◌}
 use mathlib.Core.Bool.{false≢true}
-use Rattle.core_chain.proofs.Laws.{chain-absent, slot-in, chain-fixed, chain-enabled}
-use Rattle.core_chain.proofs.is_chainable.Goals as goal
-use Rattle.core_chain.proofs.is_chainable.Goals.{then-is_named, else-is_named}
+use Rattle.core_body.proofs.Laws.{chain-absent, slot-in, chain-fixed, chain-enabled}
+use Rattle.core_body.proofs.is_chainable.Goals as goal
+use Rattle.core_body.proofs.is_chainable.Goals.{then-is_named, else-is_named}
 
 pub get-requires : goal.get-requires
 get-requires c = (c.requires.long, (let n = slot-in c.args.z c.args.t.now c.args.h.slot.0 c.args.h.generation (sym c.is_named.ensures ∙ c.if-is_named.true) in let m = c.requires.good.slots_le in omega arith))

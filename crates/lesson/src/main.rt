@@ -50,6 +50,7 @@ fn fail(rt: &HostRuntime, what: &[u8], name: &[u8], error: Error) {
 }
 
 fn main(rt: HostRuntime) {
+    // No heap: what the system takes for a name fits here, and a longer one is refused as the system refuses it.
     let mut path = [0u8; 4096];
     let length = match rt.arg(1, &mut path) {
         Ok(length) => length,

@@ -15,6 +15,7 @@ pub fn read_small(word: Option<&str>) -> Result<u32, BadLine> {
 
 // The numbers of 32 bits that are left in the line, put into `list`.
 pub fn read_numbers<'a>(words: Split<'_, char>, list: &'a mut [u32]) -> Result<&'a [u32], BadLine> {
+    // Counted beside the list, whose words are lent: no heap, and the numbers that were read are its front.
     let mut count = 0;
     // One turn for each word that is left; each fills a word of the list.
     for word in words {

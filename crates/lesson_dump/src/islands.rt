@@ -39,44 +39,27 @@ impl State<'_> {
             f,
             "island {island} count {count} denied {denied} sleeping {sleeping}"
         )?;
-        self.members(island, f)?;
-        self.contacts(island, f)?;
-        self.joints(island, f)
-    }
-
-    fn members(self, island: u32, f: &mut impl Write) -> fmt::Result {
-        write!(f, "  bodies")?;
-        // One turn for each body of the island.
-        for s in self.chain(layout::MEMBERS, island) {
+        self.list(f, "  bodies", layout::MEMBERS, island, |f, s| {
             let [generation, ..] = layout::BODIES.row(self.0, s);
-            write!(f, " {s}:{generation}")?;
-        }
-        writeln!(f)
-    }
-
-    fn contacts(self, island: u32, f: &mut impl Write) -> fmt::Result {
-        write!(f, "  contacts")?;
-        // One turn for each contact of the island.
-        for e in self.chain(layout::CONTACTS, island) {
+            write!(f, " {s}:{generation}")
+        })?;
+        self.list(f, "  contacts", layout::CONTACTS, island, |f, e| {
             let [s1, g1, s2, g2] = layout::TOUCHES.row(self.0, e);
-            write!(f, " {e}:{s1}:{g1}:{s2}:{g2}")?;
-        }
-        writeln!(f)
+            write!(f, " {e}:{s1}:{g1}:{s2}:{g2}")
+        })?;
+        self.list(f, "  joints", layout::LINKED, island, |f, place| {
+            self.joint(place, f)
+        })
     }
 
-    fn joints(self, island: u32, f: &mut impl Write) -> fmt::Result {
-        write!(f, "  joints")?;
-        // One turn for each joint of the island.
-        for place in self.chain(layout::LINKED, island) {
-            let [kind, a, b, c, s1, g1, s2, g2] = layout::KEYS.row(self.0, place);
-            if kind == 0 {
-                write!(f, " i:{a}:{b}")?;
-            } else {
-                write!(f, " c:{}:{c}", joined(a, b))?;
-            }
-            write!(f, ":{s1}:{g1}:{s2}:{g2}")?;
+    fn joint(self, place: u32, f: &mut impl Write) -> fmt::Result {
+        let [kind, a, b, c, s1, g1, s2, g2] = layout::KEYS.row(self.0, place);
+        if kind == 0 {
+            write!(f, " i:{a}:{b}")?;
+        } else {
+            write!(f, " c:{}:{c}", joined(a, b))?;
         }
-        writeln!(f)
+        write!(f, ":{s1}:{g1}:{s2}:{g2}")
     }
 }
 

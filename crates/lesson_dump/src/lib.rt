@@ -7,6 +7,7 @@ mod chains;
 mod islands;
 pub mod layout;
 
+use layout::Chains;
 use lesson_cells::word;
 use std::fmt;
 use std::fmt::{Display, Formatter, Write};
@@ -35,13 +36,29 @@ impl State<'_> {
         word(self.0, i)
     }
 
-    fn free(self, f: &mut impl Write) -> fmt::Result {
-        write!(f, "free")?;
-        // One turn for each number on the stack.
-        for island in self.chain(layout::FREED, 0) {
-            write!(f, " {island}")?;
+    // A line: its label, and each element of a list as `item` writes it.
+    fn list<W: Write, F: Fn(&mut W, u32) -> fmt::Result>(
+        self,
+        f: &mut W,
+        label: &str,
+        chains: Chains,
+        list: u32,
+        item: F,
+    ) -> fmt::Result
+        requires { F.IsAlwaysCallable item }
+    {
+        write!(f, "{label}")?;
+        // One turn for each element: at most as many as the capacity.
+        for e in self.chain(chains, list) {
+            item(f, e)?;
         }
         writeln!(f)
+    }
+
+    fn free(self, f: &mut impl Write) -> fmt::Result {
+        self.list(f, "free", layout::FREED, 0, |f, island| {
+            write!(f, " {island}")
+        })
     }
 
     fn journal(self, f: &mut impl Write) -> fmt::Result {
@@ -65,12 +82,9 @@ impl State<'_> {
         if self.word(layout::IS_OPEN) == 0 {
             return writeln!(f, "scan closed");
         }
-        write!(f, "scan open")?;
-        // One turn for each island that is seen.
-        for island in self.chain(layout::SEEN, 0) {
+        self.list(f, "scan open", layout::SEEN, 0, |f, island| {
             let [fit] = layout::FIT.row(self.0, island);
-            write!(f, " {island}:{fit}")?;
-        }
-        writeln!(f)
+            write!(f, " {island}:{fit}")
+        })
     }
 }

@@ -20,7 +20,7 @@ use Rattle.table_meaning.specs.Decode.{key_of, joint_at, island_in, decode, worl
 use Rattle.table_meaning.specs.Sound.{Good, Sound}
 use Rattle.table_meaning.proofs.Tab.{length-tabulate}
 use Rattle.table_meaning.proofs.Unique.{key-words}
-use Rattle.core_laws.specs.Places.{KeyRule, HasKey, LinkedAs, KeyAt, Unlinked, Finds}
+use Rattle.core_laws.specs.Places.{KeyRule, HasKey, LinkedAs, KeyAt, Unlinked}
 use Rattle.core_laws.specs.Loose.{Loose}
 use Rattle.core_laws.proofs.Loose.{good-loose}
 use Rattle.core_laws.proofs.Names.{island-at}
@@ -222,15 +222,3 @@ module _ {Z : Sizes} {t : List ℕ} (kind a b c : ℕ) (S : Sound Z t) (K : KeyR
   home-unlinked e p l k =
       let A : KeyAt Z (tables Z t) kind a b c p = record { place_lt = l; keyed = k } in
       k.linked (sym (joint-home p A) ∙ e)
-
--- ---- what was found
-module _ {Z : Sizes} {t : List ℕ} {kind a b c r : ℕ} (S : Sound Z t) (F : Finds Z (tables Z t) kind a b c r) where
-  pub found_none : r ≡ none → Unlinked Z (tables Z t) kind a b c
-  found_none e =
-      ⊎_elim (λ x. x.1) (λ (A : KeyAt Z (tables Z t) kind a b c r). absurd (let l = A.place_lt in let m = S.good.joints_wf.rules.n_small in omega arith)) F
-
-  pub found_at : r ≢ none → KeyAt Z (tables Z t) kind a b c r
-  found_at d = ⊎_elim (λ x. absurd (d x.0)) (λ A. A) F
-
-  pub found-fits : r ≢ none → r < Z.joints
-  found-fits d = let l = (found_at d).place_lt in let m = S.good.joints_le in omega arith

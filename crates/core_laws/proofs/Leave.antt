@@ -3,7 +3,7 @@ use mathlib.Core.Path.{◌≡◌, refl, sym, ◌∙◌, ap}
 use mathlib.Core.Logic.{◌⊎◌, inl, inr, ◌≢◌, ⊎_elim}
 use mathlib.Core.Option.{Option, none as nothing}
 use mathlib.Core.List.{List, [], ◌∷◌, ◌++◌}
-use Prim.Native.Nat.{ℕ, ◌+◌, ◌*◌, ◌<◌}
+use Prim.Native.Nat.{ℕ, ◌+◌, ◌*◌, ◌<◌, ◌≤◌, min}
 use native.Mathlib.Omega.{arith}
 use borrow.Author.Tests.{eq-eqb, ne_eqb}
 use lib.ListN.{length, get_or, set}
@@ -310,3 +310,8 @@ unpended {Z} {t} {t1} i S p q P =
 
 pub not-pending : {Z : Sizes} {t : List ℕ} (i : ℕ) → Sound Z t → (get_or (tables Z t).head 5 0 ≡ 1 → get_or (tables Z t).head 6 0 ≢ i) → Unpended Z i t t
 not-pending i S d = record { steps = pending-kept i S d; extents_same = refl; rest = refl }
+
+-- a count and one more, as `saturating_add` gives it
+pub one-more : (c : ℕ) → c ≤ 4294967295 → min (c + 1) 4294967295 ≡ more c
+unfolding more
+one-more c l = either c 4294967295 (λ e. rw (eq-eqb c 4294967295 e) (omega arith)) (λ d. rw (ne_eqb c 4294967295 d) (omega arith))

@@ -92,7 +92,7 @@ module _ (Z : Sizes) (e : ℕ) (h1 h2 : Handle) (w : World) where
       unfolding link_contact
       link-new g = rw (lt-leb Z.edges e h, eq-eqb (contact_home v e) top n, ne_eqb (target v h1 h2) top g)
 
--- from the steps: only tracked; tracked and pushed; tracked, merged and pushed
+-- from the steps: only tracked; tracked, merged and pushed
 module _ {Z : Sizes} {t t1 : List ℕ} (e : ℕ) (f : World → Step) (A : Steps Z (tracking (e + 1)) t t1) where
   pub tracked-only : f (world_of Z t) ≡ gives Nothing (track (e + 1) (world_of Z t)) → Does Z f t Nothing t1
   unfolding tracking
@@ -102,16 +102,6 @@ module _ {Z : Sizes} {t t1 : List ℕ} (e : ℕ) (f : World → Step) (A : Steps
         answer = sym (ap (λ (x : Step). x.answer) q);
         after = A.does.after ∙ sym (ap (λ (x : Step). x.after) q);
         frame = A.does.frame;
-      }
-
-  pub tracked-pushed : {t2 : List ℕ} (i : ℕ) (l : ContactLink) → f (world_of Z t) ≡ done (contact_pushed i l (track (e + 1) (world_of Z t))) → Steps Z (contact_push i l) t1 t2 → Does Z f t Done t2
-  unfolding tracking contact_push
-  tracked-pushed i l q B =
-      record {
-        sound = B.does.sound;
-        answer = sym (ap (λ (x : Step). x.answer) q);
-        after = B.does.after ∙ ap (contact_pushed i l) A.does.after ∙ sym (ap (λ (x : Step). x.after) q);
-        frame = kept_then B.larger A.does.frame B.does.frame;
       }
 
   pub tracked-merged : {t2 t3 : List ℕ} (a b i : ℕ) (l : ContactLink) → f (world_of Z t) ≡ done (contact_pushed i l (merge_islands a b (track (e + 1) (world_of Z t))))

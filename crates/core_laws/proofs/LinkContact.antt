@@ -18,10 +18,10 @@ use Rattle.table_meaning.specs.Sound.{Sound}
 use Rattle.table_meaning.specs.Does.{Does}
 use Rattle.core_laws.specs.Steps.{Steps, handle}
 use Rattle.core_laws.specs.Linking.{tracking, contact_push, contact_of}
-use Rattle.core_laws.specs.Merging.{MergeDone}
+use Rattle.core_laws.specs.Merging.{MergeDone, LinkEnds}
 use Rattle.core_laws.proofs.Touching.{contact-home}
 use Rattle.core_laws.proofs.GrowEdge.{edges-least}
-use Rattle.core_laws.proofs.Link.{target_none, target-second, merged-second, target_first, merged-first, target-both, merged-both, survivor-same, link-old, link-loose, link-new, tracked-only, tracked-pushed, tracked-merged}
+use Rattle.core_laws.proofs.Link.{survivor-same, link-old, link-loose, link-new, tracked-only, tracked-merged}
 
 module _ {Z : Sizes} {t t1 : List ℕ} (e s1 g1 s2 g2 : ℕ) (l : e < Z.edges) (A : Steps Z (tracking (e + 1)) t t1) where
   abbrev h1 : Handle
@@ -50,52 +50,21 @@ module _ {Z : Sizes} {t t1 : List ℕ} (e s1 g1 s2 g2 : ℕ) (l : e < Z.edges) (
   home_is : contact_home v e ≡ (contacts_in Z (tables Z t1)).home e
   home_is = ap (λ (x : World). contact_home x e) (sym now-is) ∙ contact-home A.does.sound e edge_lt
 
-  isle : (h : Handle) → body_island v h ≡ body_island (world_of Z t1) h
-  isle h = ap (λ (x : World). body_island x h) (sym now-is)
-
   pub contact-old : (contacts_in Z (tables Z t1)).home e ≢ none → Does Z (link_contact Z e h1 h2) t Nothing t1
   contact-old d = tracked-only e (link_contact Z e h1 h2) A (link-old Z e h1 h2 w l (λ q. d (sym home_is ∙ q)))
 
   module _ (n : (contacts_in Z (tables Z t1)).home e ≡ none) where
-    pub contact-loose : body_island (world_of Z t1) h1 ≡ none → body_island (world_of Z t1) h2 ≡ none → Does Z (link_contact Z e h1 h2) t Nothing t1
-    contact-loose p q =
-        tracked-only e (link_contact Z e h1 h2) A (link-loose Z e h1 h2 w l (home_is ∙ n) (target_none v h1 h2 (isle h1 ∙ p) (isle h2 ∙ q)))
+    pub contact-loose : target (world_of Z t1) h1 h2 ≡ none → Does Z (link_contact Z e h1 h2) t Nothing t1
+    contact-loose g =
+        tracked-only e (link_contact Z e h1 h2) A (link-loose Z e h1 h2 w l (home_is ∙ n) (ap (λ (x : World). target x h1 h2) (sym now-is) ∙ g))
 
-    pub contact-second : {t2 : List ℕ} (b : ℕ) → body_island (world_of Z t1) h1 ≡ none → b ≡ body_island (world_of Z t1) h2 → b ≢ none → Steps Z (contact_push b L) t1 t2
-        → Does Z (link_contact Z e h1 h2) t Done t2
-    contact-second b p q d B =
-        let g : target v h1 h2 ≡ b = target-second v h1 h2 (isle h1 ∙ p) ∙ isle h2 ∙ sym q in
-        tracked-pushed e (link_contact Z e h1 h2) A b L
-        (link-new Z e h1 h2 w l (home_is ∙ n) (λ x. d (sym g ∙ x))
-        ∙ ap (λ (i : ℕ). done (contact_pushed i L (merged h1 h2 v))) g
-        ∙ ap (λ (x : World). done (contact_pushed b L x)) (merged-second v h1 h2 (isle h1 ∙ p)))
-        B
-
-    pub contact-first : {t2 : List ℕ} (a : ℕ) → a ≡ body_island (world_of Z t1) h1 → a ≢ none → body_island (world_of Z t1) h2 ≡ none → Steps Z (contact_push a L) t1 t2
-        → Does Z (link_contact Z e h1 h2) t Done t2
-    contact-first a p d q B =
-        let an : body_island v h1 ≢ none = λ x. d (p ∙ sym (isle h1) ∙ x) in
-        let g : target v h1 h2 ≡ a = target_first v h1 h2 an (isle h2 ∙ q) ∙ isle h1 ∙ sym p in
-        tracked-pushed e (link_contact Z e h1 h2) A a L
-        (link-new Z e h1 h2 w l (home_is ∙ n) (λ x. d (sym g ∙ x))
-        ∙ ap (λ (i : ℕ). done (contact_pushed i L (merged h1 h2 v))) g
-        ∙ ap (λ (x : World). done (contact_pushed a L x)) (merged-first v h1 h2 an (isle h2 ∙ q)))
-        B
-
-    pub contact-both : {t2 t3 : List ℕ} (a b i : ℕ) → a ≡ body_island (world_of Z t1) h1 → a ≢ none → b ≡ body_island (world_of Z t1) h2 → b ≢ none → i ≢ none
-        → MergeDone Z a b t1 i t2 → Steps Z (contact_push i L) t2 t3 → Does Z (link_contact Z e h1 h2) t Done t3
-    contact-both a b i p ad q bd id M B =
-        let pa : body_island v h1 ≡ a = isle h1 ∙ sym p in
-        let pb : body_island v h2 ≡ b = isle h2 ∙ sym q in
-        let an : body_island v h1 ≢ none = λ x. ad (sym pa ∙ x) in
-        let bn : body_island v h2 ≢ none = λ x. bd (sym pb ∙ x) in
-        let g : target v h1 h2 ≡ i =
-        target-both v h1 h2 an bn ∙ ap (λ (k : ℕ). survivor v k (body_island v h2)) pa ∙ ap (λ (k : ℕ). survivor v a k) pb ∙ ap (λ (x : World). survivor x a b) (sym now-is)
-        ∙ sym (survivor-same (world_of Z t1) a b) ∙ sym M.survivor in
+    pub contact-linked : {t2 t3 : List ℕ} (a b i : ℕ) → LinkEnds Z h1 h2 t1 a b → MergeDone Z a b t1 i t2 → i ≢ none → Steps Z (contact_push i L) t2 t3 → Does Z (link_contact Z e h1 h2) t Done t3
+    contact-linked a b i E M d B =
+        let g : target v h1 h2 ≡ i = ap (λ (x : World). target x h1 h2) (sym now-is) ∙ E.target_is ∙ sym (survivor-same (world_of Z t1) a b) ∙ sym M.survivor in
+        let m : merged h1 h2 v ≡ merge_islands a b v = ap (merged h1 h2) (sym now-is) ∙ E.merged_is ∙ ap (merge_islands a b) now-is in
         tracked-merged e (link_contact Z e h1 h2) A a b i L
-        (link-new Z e h1 h2 w l (home_is ∙ n) (λ x. id (sym g ∙ x))
+        (link-new Z e h1 h2 w l (home_is ∙ n) (λ x. d (sym g ∙ x))
         ∙ ap (λ (k : ℕ). done (contact_pushed k L (merged h1 h2 v))) g
-        ∙ ap (λ (x : World). done (contact_pushed i L x))
-        (merged-both v h1 h2 an bn ∙ ap (λ (k : ℕ). merge_islands k (body_island v h2) v) pa ∙ ap (λ (k : ℕ). merge_islands a k v) pb))
+        ∙ ap (λ (x : World). done (contact_pushed i L x)) m)
         M.steps
         B

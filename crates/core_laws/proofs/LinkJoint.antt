@@ -23,11 +23,11 @@ use Rattle.table_meaning.proofs.Frame.{kept_then}
 use Rattle.core_laws.specs.Steps.{Steps}
 use Rattle.core_laws.specs.Lives.{Lives}
 use Rattle.core_laws.specs.Linking.{place_ready, joint_hold}
-use Rattle.core_laws.specs.Merging.{LinksStay, MergeDone}
+use Rattle.core_laws.specs.Merging.{LinksStay, MergeDone, LinkEnds}
 use Rattle.core_laws.specs.Places.{HasKey, LinkedAs, Unlinked}
 use Rattle.core_laws.proofs.Names.{island-at}
 use Rattle.core_laws.proofs.GrowPlace.{place-is-ready}
-use Rattle.core_laws.proofs.Link.{target_none, target-second, merged-second, target_first, merged-first, target-both, merged-both, survivor-same, joint-new, merged-hold}
+use Rattle.core_laws.proofs.Link.{survivor-same, joint-new, merged-hold}
 
 -- an island's count is the length of its list in the state
 count_is : {Z : Sizes} {t : List ℕ} (i : ℕ) → Sound Z t → i < (extents (tables Z t)).islands → (members_in Z (tables Z t)).count i ≡ length (island_at (world_of Z t) i).bodies
@@ -71,50 +71,23 @@ merge-unlinked {Z} {T} {U} S n p l k =
           };
     })
 
--- ---- the call, from the one or two steps
-module _ (Z : Sizes) (t : List ℕ) (q : Key) (h1 h2 : Handle) (n : joint_home (world_of Z t) q ≡ none) (r : joint_room Z (world_of Z t) ≢ 0) where
+-- ---- the call, from the two steps
+module _ (Z : Sizes) (t : List ℕ) (q : Key) (h1 h2 : Handle) (n : joint_home (world_of Z t) q ≡ none) where
   abbrev w : World
   w = world_of Z t
 
-  held : {t1 : List ℕ} (i : ℕ) → target w h1 h2 ≡ i → i ≢ none → merged h1 h2 w ≡ w → Steps Z (joint_hold i q h1 h2) t t1 → Does Z (link_joint Z q h1 h2) t Done t1
-  unfolding joint_hold
-  held i g d m B =
-      let e : link_joint Z q h1 h2 w ≡ joint_hold i q h1 h2 w =
-      joint-new Z q h1 h2 w n (λ x. d (sym g ∙ x)) r
-      ∙ ap (λ (k : ℕ). done (joint_pushed k (record { place = new_place w; key = q; body1 = h1; body2 = h2 }) (take_place (merged h1 h2 w)))) g
-      ∙ ap (λ (v : World). done (joint_pushed i (record { place = new_place w; key = q; body1 = h1; body2 = h2 }) (take_place v))) m in
-      record {
-        sound = B.does.sound;
-        answer = sym (ap (λ (x : Step). x.answer) e);
-        after = B.does.after ∙ sym (ap (λ (x : Step). x.after) e);
-        frame = B.does.frame;
-      }
-
-  pub joint-second : {t1 : List ℕ} (b : ℕ) → body_island w h1 ≡ none → b ≡ body_island w h2 → b ≢ none → Steps Z (joint_hold b q h1 h2) t t1 → Does Z (link_joint Z q h1 h2) t Done t1
-  joint-second b p e d B = held b (target-second w h1 h2 p ∙ sym e) d (merged-second w h1 h2 p) B
-
-  pub joint-first : {t1 : List ℕ} (a : ℕ) → a ≡ body_island w h1 → a ≢ none → body_island w h2 ≡ none → Steps Z (joint_hold a q h1 h2) t t1 → Does Z (link_joint Z q h1 h2) t Done t1
-  joint-first a p d e B =
-      let an : body_island w h1 ≢ none = λ x. d (p ∙ x) in
-      held a (target_first w h1 h2 an e ∙ sym p) d (merged-first w h1 h2 an e) B
-
-  pub joint-both : {t1 t2 : List ℕ} (a b i : ℕ) → a ≡ body_island w h1 → a ≢ none → b ≡ body_island w h2 → b ≢ none → i ≢ none → MergeDone Z a b t i t1
-      → Steps Z (joint_hold i q h1 h2) t1 t2 → Does Z (link_joint Z q h1 h2) t Done t2
-  unfolding joint_hold
-  joint-both a b i p ad e bd id M B =
-      let an : body_island w h1 ≢ none = λ x. ad (p ∙ x) in
-      let bn : body_island w h2 ≢ none = λ x. bd (e ∙ x) in
-      let g : target w h1 h2 ≡ i =
-      target-both w h1 h2 an bn ∙ ap (λ (k : ℕ). survivor w k (body_island w h2)) (sym p) ∙ ap (λ (k : ℕ). survivor w a k) (sym e) ∙ sym (survivor-same w a b) ∙ sym M.survivor in
-      let m : merged h1 h2 w ≡ merge_islands a b w =
-      merged-both w h1 h2 an bn ∙ ap (λ (k : ℕ). merge_islands k (body_island w h2) w) (sym p) ∙ ap (λ (k : ℕ). merge_islands a k w) (sym e) in
-      let f : link_joint Z q h1 h2 w ≡ done (joint_pushed i (record { place = new_place w; key = q; body1 = h1; body2 = h2 }) (take_place (merge_islands a b w))) =
-      joint-new Z q h1 h2 w n (λ x. id (sym g ∙ x)) r
-      ∙ ap (λ (k : ℕ). done (joint_pushed k (record { place = new_place w; key = q; body1 = h1; body2 = h2 }) (take_place (merged h1 h2 w)))) g
-      ∙ ap (λ (v : World). done (joint_pushed i (record { place = new_place w; key = q; body1 = h1; body2 = h2 }) (take_place v))) m in
-      record {
-        sound = B.does.sound;
-        answer = sym (ap (λ (x : Step). x.answer) f);
-        after = B.does.after ∙ ap (λ (v : World). (joint_hold i q h1 h2 v).after) M.steps.does.after ∙ merged-hold a b i q h1 h2 w ∙ sym (ap (λ (x : Step). x.after) f);
-        frame = kept_then B.larger M.steps.does.frame B.does.frame;
-      }
+  module _ (a b i : ℕ) (E : LinkEnds Z h1 h2 t a b) (d : i ≢ none) {t1 : List ℕ} (M : MergeDone Z a b t i t1) where
+    pub joint-linked : {t2 : List ℕ} → joint_room Z (world_of Z t) ≢ 0 → Steps Z (joint_hold i q h1 h2) t1 t2 → Does Z (link_joint Z q h1 h2) t Done t2
+    unfolding joint_hold
+    joint-linked r B =
+        let g : target w h1 h2 ≡ i = E.target_is ∙ sym (survivor-same w a b) ∙ sym M.survivor in
+        let f : link_joint Z q h1 h2 w ≡ done (joint_pushed i (record { place = new_place w; key = q; body1 = h1; body2 = h2 }) (take_place (merge_islands a b w))) =
+        joint-new Z q h1 h2 w n (λ x. d (sym g ∙ x)) r
+        ∙ ap (λ (k : ℕ). done (joint_pushed k (record { place = new_place w; key = q; body1 = h1; body2 = h2 }) (take_place (merged h1 h2 w)))) g
+        ∙ ap (λ (v : World). done (joint_pushed i (record { place = new_place w; key = q; body1 = h1; body2 = h2 }) (take_place v))) E.merged_is in
+        record {
+          sound = B.does.sound;
+          answer = sym (ap (λ (x : Step). x.answer) f);
+          after = B.does.after ∙ ap (λ (v : World). (joint_hold i q h1 h2 v).after) M.steps.does.after ∙ merged-hold a b i q h1 h2 w ∙ sym (ap (λ (x : Step). x.after) f);
+          frame = kept_then B.larger M.steps.does.frame B.does.frame;
+        }

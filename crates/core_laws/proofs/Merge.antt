@@ -352,7 +352,7 @@ bodies-many {Z} {t} i S l =
     let T = tables Z t in
     ap (λ (a : Island). length a.bodies) (island-at Z (extents T) T i l) ∙ length-list S.good.members_wf.rules i l
 
-merge-one : (a b : ℕ) (w : World) → a ≡ b → merge_islands a b w ≡ w
+pub merge-one : (a b : ℕ) (w : World) → a ≡ b → merge_islands a b w ≡ w
 unfolding merge_islands
 merge-one a b w e = rw (eq-eqb a b e)
 

@@ -381,13 +381,14 @@ rename-ready {Z} {t} {g} {l} H =
     let T = tables Z t in
     ready Z (extents T) T H.sound.good (sized Z t H.sound.long) g l H.edges_is H.to_lt H.to_free H.from_linked
 
-pub handed : {Z : Sizes} {t t1 t2 t3 : List ℕ} (g l a b c d : ℕ) → Handing Z g l t → a ≡ get_or (tables Z t).touches (4 * l) 0 → b ≡ get_or (tables Z t).touches (4 * l + 1) 0
-    → c ≡ get_or (tables Z t).touches (4 * l + 2) 0 → d ≡ get_or (tables Z t).touches (4 * l + 3) 0
+pub handed : {Z : Sizes} {t t1 t2 t3 : List ℕ} (g l a b c d : ℕ) → Handing Z g l t → (a ≡ get_or (tables Z t).touches (4 * l) 0) × (b ≡ get_or (tables Z t).touches (4 * l + 1) 0)
+    → (c ≡ get_or (tables Z t).touches (4 * l + 2) 0) × (d ≡ get_or (tables Z t).touches (4 * l + 2 + 1) 0)
     → Put (contacts_at Z) (contacts_span Z) t t1 (words.renamed (tables Z t).contacts 0 (4 * Z.edges) l g)
     → Put (touches_at Z) (touches_span Z) t1 t2 (writes (tables Z t1).touches (four_words (4 * g) a b c d))
     → Put (head_at Z) (head_span Z) t2 t3 (set (tables Z t2).head 2 l) → Does Z (contact_edge_removed g l) t Done t3
-handed {Z} {t} {t1} {t2} {t3} g l a b c d H ea eb ec ed P1 P2 P3 =
+handed {Z} {t} {t1} {t2} {t3} g l a b c d H eh ek P1 P2 P3 =
     let T = tables Z t in
+    let n : 4 * l + 2 + 1 ≡ 4 * l + 3 = omega arith in
     let X = extents T in
     let E = H.sound in
     let G = E.good in
@@ -401,7 +402,7 @@ handed {Z} {t} {t1} {t2} {t3} g l a b c d H ea eb ec ed P1 P2 P3 =
     let e1 = put-contacts Z t t1 _ E.long P1 in
     let e2 = put-touches Z t1 t2 _ h1 P2 ∙ ap (λ (M : Tables). touches_put M (writes M.touches (four_words (4 * g) a b c d))) e1 in
     let e3 = put-head Z t2 t3 _ h2 P3 ∙ ap (λ (M : Tables). head_put M (set M.head 2 l)) e2 in
-    let e : tables Z t3 ≡ W Z X T G K g l q gl gb lh = rw (ea, eb, ec, ed) at e3 in
+    let e : tables Z t3 ≡ W Z X T G K g l q gl gb lh = rw (eh.0, eh.1, ek.0, ek.1, n) at e3 in
     let r : extents (W Z X T G K g l q gl gb lh) ≡ fewer_edges X l = after Z T (W Z X T G K g l q gl gb lh) l K refl in
     let s = edge-done g l E (omega arith) gb q in
     record {

@@ -116,17 +116,15 @@ pub entry-words : {Z : Sizes} {t₀ t : List ℕ} {k : ℕ} → Counts Z t₀ t 
 entry-words C = ap (λ (W : Tables). W.journal) C.only.same
 
 abbrev pub entry_at : List ℕ → ℕ → Removal
-entry_at x k = entry_of (get_or x (4 * k) 0) (get_or x (4 * k + 1) 0) (get_or x (4 * k + 2) 0) (get_or x (4 * k + 3) 0)
+entry_at x k = entry_of (get_or x (4 * k) 0) (get_or x (4 * k + 1) 0) (get_or x (4 * k + 2) 0) (get_or x (4 * k + 2 + 1) 0)
 
 pub counts_step : {Z : Sizes} {t₀ t t' : List ℕ} (k : ℕ) → k < (extents (tables Z t₀)).journal → Counts Z t₀ t k → Counted Z (entry_at (tables Z t).journal k) t t' → Counts Z t₀ t' (k + 1)
 unfolding counting count_all
 counts_step {Z} {t₀} {t} {t'} k l C D =
     let J = (world_of Z t₀).removal_journal in
     let r = entry_at (tables Z t).journal k in
-    let n : (4 * k + 2) + 1 ≡ 4 * k + 3 = omega arith in
     let e : get_or J k r ≡ r =
-    entry-is Z t₀ k r l ∙ ap (λ (x : List ℕ). removal_at x k) (sym (entry-words C))
-    ∙ ap (λ (j : ℕ). entry_of (get_or (tables Z t).journal (4 * k) 0) (get_or (tables Z t).journal (4 * k + 1) 0) (get_or (tables Z t).journal (4 * k + 2) 0) (get_or (tables Z t).journal j 0)) n in
+    entry-is Z t₀ k r l ∙ ap (λ (x : List ℕ). removal_at x k) (sym (entry-words C)) in
     let c : drop k J ≡ r ∷ drop (k + 1) J =
     drop-cons J k r (let q = journal_is Z t₀ in omega arith) ∙ ap (λ (x : Removal). x ∷ drop (suc k) J) e ∙ ap (λ (j : ℕ). r ∷ drop j J) (sym (add-one k)) in
     record {

@@ -1,13 +1,15 @@
 -- unlink_contact, where it is known whether and where the edge is linked; the island of a body that a handle names.
 use mathlib.Core.Path.{◌≡◌, refl, sym, ◌∙◌, ap}
 use mathlib.Core.Logic.{◌≢◌}
-use mathlib.Core.Bool.{Bool, true, false, ◌&&◌}
+use mathlib.Core.Bool.{Bool, true, false, ◌&&◌, false≢true}
 use mathlib.Core.List.{List}
 use Prim.Native.Nat.{ℕ, ◌+◌, ◌*◌, ◌≤◌, ◌<◌}
 use native.Mathlib.Omega.{arith}
 use lib.Dec.{eqb}
-use borrow.Author.Tests.{eq-eqb, ne_eqb, le-leb, lt-leb}
+use borrow.Author.Tests.{eq-eqb, ne_eqb, le-leb, lt-leb, true-eqb, false-eqb}
 use lib.ListN.{length, get_or}
+use Rattle.std.specs.Option.{option_eq}
+use Rattle.std.specs.Prelude.{Option, None, Some, MatchOption}
 use Rattle.list_in_table.specs.Rules.{none}
 use Rattle.def_kinds.specs.Choice.{pick}
 use Rattle.list_in_table.proofs.Laws.{held}
@@ -143,3 +145,12 @@ module _ {Z : Sizes} {t : List ℕ} (s g : ℕ) where
       go : (b : Bool) → named (world_of Z t) (handle s g) ≡ b → Lives Z t (body_island (world_of Z t) (handle s g))
       go false e = absurd (d (island-unnamed s g (world_of Z t) e))
       go true e = let q = island-named S e in rw q (home-lives s S (named_is Z t s g e).slot_lt (λ x. d (q ∙ x)))
+
+-- ---- the island of a body, as `body_island` tells it, beside the number i
+pub island-same : {n : ℕ} (r : Option ℕ) (i : ℕ) → MatchOption r (n ≡ none) (λ j. (j ≡ n) × (j ≢ none)) → true ≡ option_eq eqb r (Some i) → i ≡ n
+island-same None i m e = absurd (false≢true (sym e))
+island-same (Some j) i m e = sym (true-eqb j i e) ∙ m.0
+
+pub island-other : {n : ℕ} (r : Option ℕ) (i : ℕ) → MatchOption r (n ≡ none) (λ j. (j ≡ n) × (j ≢ none)) → false ≡ option_eq eqb r (Some i) → i ≢ none → i ≢ n
+island-other None i m e d q = d (q ∙ m)
+island-other (Some j) i m e d q = false-eqb j i e (m.0 ∙ sym q)

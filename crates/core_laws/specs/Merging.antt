@@ -4,8 +4,8 @@ use Rattle.list_in_table.specs.Rules.{none}
 use Rattle.list_in_table.specs.Word.{writes}
 use Rattle.def_kinds.specs.Choice.{pick}
 use Rattle.def_kinds.specs.declared.Sizes.{Sizes}
-use Rattle.def_state.specs.World.{done}
-use Rattle.def_state.specs.Links.{survivor, add_counts, merge_islands}
+use Rattle.def_state.specs.World.{Handle, done}
+use Rattle.def_state.specs.Links.{survivor, add_counts, merge_islands, target, merged}
 use Rattle.table_meaning.specs.Layout.{Tables, tables, extents, members_in, contacts_in, joints_in}
 use Rattle.table_meaning.specs.Decode.{bit_of, flag, world_of}
 use Rattle.table_meaning.specs.Sound.{Sound}
@@ -56,3 +56,9 @@ pub record MergeDone (Z : Sizes) (a b : ℕ) (t : List ℕ) (r : ℕ) (t' : List
   pub in_use : r < (extents (tables Z t')).islands
   pub live : (members_in Z (tables Z t')).count r ≢ 0
   pub stays : LinksStay Z (tables Z t) (tables Z t')
+
+-- a link between these bodies goes into what the islands a and b are merged to; where one body alone is a member, both are its island
+pub record LinkEnds (Z : Sizes) (h1 h2 : Handle) (t : List ℕ) (a b : ℕ) : Type 0 where
+  pub live : TwoLive Z a b t
+  pub target_is : target (world_of Z t) h1 h2 ≡ survivor (world_of Z t) a b
+  pub merged_is : merged h1 h2 (world_of Z t) ≡ merge_islands a b (world_of Z t)

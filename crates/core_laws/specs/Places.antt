@@ -36,10 +36,6 @@ module _ (Z : Sizes) (T : Tables) (kind a b c : ℕ) where
   abbrev pub Unlinked : Type 0
   Unlinked = (p : ℕ) → p < (extents T).joints → LinkedAs p → ⊥
 
-  -- r is the place that has them, or none
-  abbrev pub Finds : (r : ℕ) → Type 0
-  Finds r = ((r ≡ none) × Unlinked) ⊎ KeyAt r
-
 -- the place p, in use, is linked with this key
 abbrev pub PlaceHas : (Z : Sizes) (T : Tables) (key : JointKey) (p : ℕ) → Type 0
 PlaceHas Z T key p = KeyAt Z T (words_of key).kind (words_of key).first (words_of key).second (words_of key).third p

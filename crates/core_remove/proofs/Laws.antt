@@ -1,11 +1,11 @@
 -- What it is, for the functions of this crate, that a body left its island: from the puts of each, and from one function after the other.
 use mathlib.Core.Path.{◌≡◌, refl, sym, ◌∙◌, ap}
 use mathlib.Core.Logic.{◌≢◌}
-use mathlib.Core.Bool.{true, false, false≢true}
+use mathlib.Core.Bool.{Bool, true, false, false≢true}
 use mathlib.Core.List.{List, [], ◌∷◌}
 use Prim.Native.Nat.{ℕ, ◌*◌, ◌<◌}
 use native.Mathlib.Omega.{arith}
-use borrow.Author.Tests.{ne_eqb}
+use borrow.Author.Tests.{eq-eqb, ne_eqb}
 use lib.ListN.{length, get_or, set}
 use Rattle.list_in_table.specs.Rules.{none, list_of}
 use Rattle.list_in_table.specs.Word.{writes}
@@ -15,11 +15,13 @@ use Rattle.list_in_table.proofs.Order.{length-list, list-of}
 use Rattle.list_in_buffer.specs.Part.{Put}
 use Rattle.def_kinds.specs.declared.Sizes.{Sizes}
 use Rattle.def_kinds.specs.Answers.{Done, Nothing}
-use Rattle.def_kinds.specs.declared.IslandAnswer.{IslandAnswer}
 use Rattle.def_state.specs.Plain.{more}
 use Rattle.def_state.specs.World.{Island, World, island_at, named, island_of, body_island}
 use Rattle.def_state.specs.Membership.{left, remove}
 use Rattle.def_state.specs.Bodies.{island}
+use Rattle.def_kinds.specs.declared.Island.{Island as IslandNumber}
+use Rattle.def_kinds.specs.declared.Refusal.{Refusal}
+use Rattle.std.specs.Prelude.{Option, None, Some, Result, Ok, MatchOption, IsSomeAnd}
 use Rattle.table_meaning.specs.Layout.{Tables, tables, total, Extents, extents, members_at, members_span, rows_at, rows_span, freed_at, freed_span, members_in, contacts_in, joints_in}
 use Rattle.table_meaning.specs.Decode.{world_of}
 use Rattle.table_meaning.specs.Sound.{Sound}
@@ -31,9 +33,10 @@ use Rattle.core_laws.specs.Steps.{handle, row_words, leave, leave_last}
 use Rattle.core_laws.specs.Drops.{Cleared, JointsCleared}
 use Rattle.core_laws.specs.Leaves.{freeing, BodyLeft, Unpended, Removes}
 use Rattle.core_laws.proofs.Then.{refused, does-as}
-use Rattle.core_laws.proofs.Names.{island-at, home_is}
+use Rattle.core_laws.proofs.Names.{named_is, island-at, home_is}
 use Rattle.core_laws.proofs.Stays.{stays-extents}
 use Rattle.core_laws.proofs.Leave.{home_lt, left-some, left-last}
+use Rattle.core_laws.proofs.Unlink.{island-unnamed, island-named}
 use Rattle.core_laws.proofs.Emptied.{removed-last, remove-no, remove-none, remove-some}
 
 -- ---- the only element of a list
@@ -182,12 +185,47 @@ module _ {Z : Sizes} {t : List ℕ} (s g : ℕ) (S : Sound Z t) where
             gone = λ y. L.gone;
           }
 
--- ---- island_on
-module _ (w : World) (s g : ℕ) where
-  pub island-no : named w (handle s g) ≡ false → ◌≡◌ {A = IslandAnswer} (record { answer = Done; island = record { 0 = none } }) (island (handle s g) w)
-  unfolding island body_island
-  island-no n = rw n
+-- ---- from the island of a body, as `body_island` tells it
+module _ {Z : Sizes} {t : List ℕ} (s g : ℕ) (S : Sound Z t) where
+  -- the handle names no body, or one in no island
+  pub nowhere : body_island (world_of Z t) (handle s g) ≡ none → Removes Z s g t Nothing t
+  nowhere e = go (named (world_of Z t) (handle s g)) refl
+    where
+      go : (b : Bool) → named (world_of Z t) (handle s g) ≡ b → Removes Z s g t Nothing t
+      go false n = not_named s g S n
+      go true n = no-island s g S n (named_is Z t s g n).slot_lt (sym (island-named s g S n) ∙ e)
 
-  pub island-yes : (i : ℕ) → named w (handle s g) ≡ true → island_of w s ≡ i → ◌≡◌ {A = IslandAnswer} (record { answer = Done; island = record { 0 = i } }) (island (handle s g) w)
-  unfolding island body_island
-  island-yes i n e = rw (n, e)
+  module _ (i : ℕ) (e : i ≡ body_island (world_of Z t) (handle s g)) (d : i ≢ none) where
+    is_named : named (world_of Z t) (handle s g) ≡ true
+    is_named = go (named (world_of Z t) (handle s g)) refl
+      where
+        go : (b : Bool) → named (world_of Z t) (handle s g) ≡ b → named (world_of Z t) (handle s g) ≡ true
+        go false n = absurd (d (e ∙ island-unnamed s g (world_of Z t) n))
+        go true n = n
+
+    pub slot_in : s < (extents (tables Z t)).slots
+    slot_in = (named_is Z t s g is_named).slot_lt
+
+    pub home-i : (members_in Z (tables Z t)).home s ≡ i
+    home-i = sym (island-named s g S is_named) ∙ sym e
+
+    -- room for the island's number, and a body in it
+    pub island_in : i < Z.islands
+    island_in = let h = home_lt s i S slot_in home-i d in let m = S.good.islands_le in omega arith
+
+    pub peopled : 0 < (members_in Z (tables Z t)).count i
+    peopled = some-body s i S slot_in home-i d
+
+    pub left-alone : {t' : List ℕ} → (members_in Z (tables Z t)).count i ≡ 1 → BodyLeft Z (freeing i) s t t' → Removes Z s g t Done t'
+    left-alone c L = removed-only s g S is_named slot_in i home-i d c L
+
+    pub left-others : {t' : List ℕ} → 1 < (members_in Z (tables Z t)).count i → BodyLeft Z (leave s i) s t t' → Removes Z s g t Done t'
+    left-others c L = removed-some s g S is_named slot_in i home-i d c L
+
+-- ---- island_on: the island of a body, as `body_island` tells it, by its number
+pub told : {P : ℕ → IslandNumber → Type 0} (w : World) (s g : ℕ) (b : Option ℕ) (r : Option IslandNumber) → MatchOption b (body_island w (handle s g) ≡ none) (λ i. (i ≡ body_island w (handle s g)) × (i ≢ none))
+    → MatchOption b (r ≡ None) (λ i. IsSomeAnd r (P i)) → ((i : ℕ) (k : IslandNumber) → P i k → k ≡ record { 0 = i }) → ◌≡◌ {A = Result (Option IslandNumber) Refusal} (Ok r) (island (handle s g) w)
+unfolding island
+told w s g None r e m p = rw (m, eq-eqb _ none e)
+told w s g (Some i) None e m p = absurd m
+told w s g (Some i) (Some k) e m p = rw (p i k m, sym e.0, ne_eqb i none e.1)

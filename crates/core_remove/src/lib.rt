@@ -3,7 +3,6 @@
 
 ghost use Rattle.std.specs.Prelude.{◌≡◌, ◌≢◌, ◌+◌, ◌*◌, ◌<◌};
 ghost use Rattle.list_in_table.specs.Rules.{none};
-ghost use Rattle.def_state.specs.Plain.{more};
 ghost use Rattle.def_state.specs.Bodies.{retire, island};
 ghost use Rattle.def_state.specs.Membership.{remove};
 ghost use Rattle.table_meaning.specs.Layout.{tables, extents, members_in, contacts_in, joints_in};
@@ -14,18 +13,8 @@ ghost use Rattle.core_laws.specs.Steps.{handle, leave, leave_last};
 ghost use Rattle.core_laws.specs.Drops.{Dropped, Cleared, JointDropped, JointsCleared};
 ghost use Rattle.core_laws.specs.Leaves.{freeing, BodyLeft, Removes};
 
-use def_kinds::{Answer, Island, NONE, Outcome, Sizes, IslandAnswer};
+use def_kinds::{Answer, Handle, Island, NONE, Outcome, Refusal, Sizes};
 use table_meaning::{Table, word};
-
-// A count and one more; counts stop at 4294967295.
-pub fn one_more(c: u32) -> u32
-    ensures { result ≡ more c }
-{
-    if c == 4294967295 {
-        return c;
-    }
-    c + 1
-}
 
 // The last contact link of the island i goes.
 fn drop_contact(t: &mut [u32], z: Sizes, i: u32)
@@ -34,7 +23,13 @@ fn drop_contact(t: &mut [u32], z: Sizes, i: u32)
 {
     let e = table_words::last(t, z, Table::Contacts, i);
     table_words::remove(t, z, Table::Contacts, e);
-    table_words::set_all(t, z, Table::Touches, word::TOUCH * (e as usize), &[NONE, NONE, NONE, NONE]);
+    table_words::set_all(
+        t,
+        z,
+        Table::Touches,
+        word::TOUCH * (e as usize),
+        &[NONE, NONE, NONE, NONE],
+    );
 }
 
 // All contact links of the island i go.
@@ -42,15 +37,15 @@ pub fn drop_contacts(t: &mut [u32], z: Sizes, i: u32)
     requires { Sound z t.old × (i < (extents (tables z t.old)).islands) }
     ensures { Cleared z i t.old t.new }
 {
-    let mut left = table_words::count(t, z, Table::Contacts, i);
+    let links = table_words::count(t, z, Table::Contacts, i);
     // One turn for each contact link of the island: at most as many as there are edges.
-    while left > 0 {
+    for _ in 0..links {
         drop_contact(t, z, i);
-        left -= 1;
     }
 }
 
 // The last joint link of the island i goes, and its place of the key table is free.
+// Not one function with drop_contact, nor drop_joints with drop_contacts: a joint's place is freed too, and the two promise it of other tables.
 fn drop_joint(t: &mut [u32], z: Sizes, i: u32)
     requires { Sound z t.old × (i < (extents (tables z t.old)).islands) × (0 < (joints_in z (tables z t.old)).count i) }
     ensures { JointDropped z i t.old t.new }
@@ -59,7 +54,13 @@ fn drop_joint(t: &mut [u32], z: Sizes, i: u32)
     let at = word::KEY * (p as usize);
     table_words::remove(t, z, Table::Joints, p);
     table_words::set_all(t, z, Table::Keys, at, &[NONE, NONE, NONE, NONE]);
-    table_words::set_all(t, z, Table::Keys, at + word::KEY_BODIES, &[NONE, NONE, NONE, NONE]);
+    table_words::set_all(
+        t,
+        z,
+        Table::Keys,
+        at + word::KEY_BODIES,
+        &[NONE, NONE, NONE, NONE],
+    );
     table_words::push(t, z, Table::Spare, 0, p);
 }
 
@@ -68,11 +69,10 @@ pub fn drop_joints(t: &mut [u32], z: Sizes, i: u32)
     requires { Sound z t.old × (i < (extents (tables z t.old)).islands) }
     ensures { JointsCleared z i t.old t.new }
 {
-    let mut left = table_words::count(t, z, Table::Joints, i);
+    let links = table_words::count(t, z, Table::Joints, i);
     // One turn for each joint link of the island: at most as many as there are joint places.
-    while left > 0 {
+    for _ in 0..links {
         drop_joint(t, z, i);
-        left -= 1;
     }
 }
 
@@ -82,9 +82,9 @@ pub fn leave_some(t: &mut [u32], z: Sizes, s: u32, i: u32)
     ensures { BodyLeft z (leave s i) s t.old t.new }
 {
     table_words::remove(t, z, Table::Members, s);
-    let removals = table_words::get(t, z, Table::Rows, word::ROW * (i as usize));
-    let more = one_more(removals);
-    table_words::set(t, z, Table::Rows, word::ROW * (i as usize), more);
+    let at = word::ROW * (i as usize);
+    let removals = table_words::get(t, z, Table::Rows, at);
+    table_words::set(t, z, Table::Rows, at, removals.saturating_add(1));
 }
 
 // The island i, with the body in slot s alone and no link, is freed.
@@ -109,53 +109,39 @@ fn remove_only(t: &mut [u32], z: Sizes, s: u32, i: u32)
 }
 
 // remove, on sound tables.
-pub fn remove_on(t: &mut [u32], z: Sizes, s: u32, g: u32) -> Answer
+pub fn remove_on(t: &mut [u32], z: Sizes, h: Handle) -> Answer
     requires { Sound z t.old }
-    ensures { Removes z s g t.old result t.new }
+    ensures { Removes z h.slot.0 h.generation t.old result t.new }
 {
-    if !core_body::is_named(t, z, s, g) {
+    let Some(i) = core_contact::body_island(t, z, h) else {
         return Ok(Outcome::Nothing);
+    };
+    if table_words::count(t, z, Table::Members, i) == 1 {
+        remove_only(t, z, h.slot.0, i);
+    } else {
+        leave_some(t, z, h.slot.0, i);
     }
-    let i = table_words::home(t, z, Table::Members, s);
-    if i == NONE {
-        return Ok(Outcome::Nothing);
-    }
-    let bodies = table_words::count(t, z, Table::Members, i);
-    if bodies == 1 {
-        remove_only(t, z, s, i);
-        return Ok(Outcome::Done);
-    }
-    leave_some(t, z, s, i);
     Ok(Outcome::Done)
 }
 
 // retire, on sound tables.
-pub fn retire_on(t: &mut [u32], z: Sizes, s: u32, g: u32) -> Answer
+pub fn retire_on(t: &mut [u32], z: Sizes, h: Handle) -> Answer
     requires { Sound z t.old }
-    ensures { Does z (retire (handle s g)) t.old result t.new }
+    ensures { Does z (retire (handle h.slot.0 h.generation)) t.old result t.new }
 {
-    if !core_body::is_named(t, z, s, g) {
+    if !core_body::is_named(t, z, h) {
         return Ok(Outcome::Nothing);
     }
-    remove_on(t, z, s, g);
-    core_body::empty_slot(t, z, s, g);
+    // Taken out of its island, or in none: it is in none then.
+    let _ = remove_on(t, z, h);
+    core_body::empty_slot(t, z, h);
     Ok(Outcome::Done)
 }
 
 // A body's island, on sound tables.
-pub fn island_on(t: &[u32], z: Sizes, s: u32, g: u32) -> IslandAnswer
+pub fn island_on(t: &[u32], z: Sizes, h: Handle) -> Result<Option<Island>, Refusal>
     requires { Sound z t.now }
-    ensures { result ≡ island (handle s g) (world_of z t.now) }
+    ensures { result ≡ island (handle h.slot.0 h.generation) (world_of z t.now) }
 {
-    if !core_body::is_named(t, z, s, g) {
-        return IslandAnswer {
-            answer: Ok(Outcome::Done),
-            island: Island(NONE),
-        };
-    }
-    let i = table_words::home(t, z, Table::Members, s);
-    IslandAnswer {
-        answer: Ok(Outcome::Done),
-        island: Island(i),
-    }
+    Ok(core_contact::body_island(t, z, h).map(Island))
 }

@@ -19,8 +19,8 @@ pub fn rename_in(t: &mut [u32], a: usize, k: usize, ends: usize, from: u32, to: 
     requires { (a + k ≤ length t.old) × RenameReady (part t.old a k) 0 ends from to }
     ensures { Put a k t.old t.new (renamed (part t.old a k) 0 ends from to) }
 {
-    let z = a + k;
-    list_rename::rename(&mut t[a..z], 0, ends, from, to);
+    let end = a + k;
+    list_rename::rename(&mut t[a..end], 0, ends, from, to);
 }
 
 // The same in a chain table by its name.
@@ -39,12 +39,23 @@ fn hand_over(t: &mut [u32], z: Sizes, removed: u32, last: u32)
     requires { Handing z removed last t.old }
     ensures { Does z (contact_edge_removed removed last) t.old Done t.new }
 {
-    let s1 = table_words::get(t, z, Table::Touches, word::TOUCH * (last as usize));
-    let g1 = table_words::get(t, z, Table::Touches, word::TOUCH * (last as usize) + word::GENERATION1);
-    let s2 = table_words::get(t, z, Table::Touches, word::TOUCH * (last as usize) + word::SLOT2);
-    let g2 = table_words::get(t, z, Table::Touches, word::TOUCH * (last as usize) + word::GENERATION2);
+    let from = word::TOUCH * (last as usize);
+    let first = table_words::handle_at(t, z, Table::Touches, from);
+    let second = table_words::handle_at(t, z, Table::Touches, from + word::SLOT2);
     rename_at(t, z, Table::Contacts, last, removed);
-    table_words::set_all(t, z, Table::Touches, word::TOUCH * (removed as usize), &[s1, g1, s2, g2]);
+    let to = word::TOUCH * (removed as usize);
+    table_words::set_all(
+        t,
+        z,
+        Table::Touches,
+        to,
+        &[
+            first.slot.0,
+            first.generation,
+            second.slot.0,
+            second.generation,
+        ],
+    );
     table_words::set(t, z, Table::Head, word::TRACKED, last);
 }
 
@@ -57,7 +68,7 @@ pub fn renumber_on(t: &mut [u32], z: Sizes, removed: u32, last: u32) -> Answer
     if removed >= tracked {
         return Ok(Outcome::Nothing);
     }
-    // The last edge; last + 1 need not fit, and n is not 0 here.
+    // The last edge; last + 1 need not fit, and tracked is not 0 here.
     let last_edge = tracked - 1;
     let home = table_words::home(t, z, Table::Contacts, removed);
     if home != NONE {
@@ -66,11 +77,10 @@ pub fn renumber_on(t: &mut [u32], z: Sizes, removed: u32, last: u32) -> Answer
     if last_edge != last {
         return Ok(Outcome::Nothing); // another edge is the last
     }
-    let last_home = table_words::home(t, z, Table::Contacts, last);
-    if last_home == NONE {
+    if table_words::home(t, z, Table::Contacts, last) == NONE {
         table_words::set(t, z, Table::Head, word::TRACKED, last);
-        return Ok(Outcome::Done);
+    } else {
+        hand_over(t, z, removed, last);
     }
-    hand_over(t, z, removed, last);
     Ok(Outcome::Done)
 }

@@ -7,25 +7,22 @@ ghost use Rattle.table_meaning.specs.Sound.{Sound};
 ghost use Rattle.table_meaning.specs.Does.{Does};
 ghost use Rattle.core_laws.specs.Resolving.{entry_of, Counted};
 
-use def_kinds::{Answer, NONE, Outcome, Sizes};
+use def_kinds::{Answer, Handle, Outcome, Sizes};
 use table_meaning::{Table, word};
 
 // One entry: where both handles are members of one island, its count rises by 1.
-pub fn count_entry(t: &mut [u32], z: Sizes, s1: u32, g1: u32, s2: u32, g2: u32)
+pub fn count_entry(t: &mut [u32], z: Sizes, first: Handle, second: Handle)
     requires { Sound z t.old }
-    ensures { Counted z (entry_of s1 g1 s2 g2) t.old t.new }
+    ensures { Counted z (entry_of first.slot.0 first.generation second.slot.0 second.generation) t.old t.new }
 {
-    let i = core_contact::body_island(t, z, s1, g1);
-    if i == NONE {
+    let Some(i) = core_contact::body_island(t, z, first) else {
         return;
+    };
+    if core_contact::body_island(t, z, second) == Some(i) {
+        let at = word::ROW * (i as usize);
+        let removals = table_words::get(t, z, Table::Rows, at);
+        table_words::set(t, z, Table::Rows, at, removals.saturating_add(1));
     }
-    let j = core_contact::body_island(t, z, s2, g2);
-    if i != j {
-        return;
-    }
-    let removals = table_words::get(t, z, Table::Rows, word::ROW * (i as usize));
-    let more = core_remove::one_more(removals);
-    table_words::set(t, z, Table::Rows, word::ROW * (i as usize), more);
 }
 
 // The resolver, on sound tables.
@@ -37,16 +34,12 @@ pub fn resolve_on(t: &mut [u32], z: Sizes) -> Answer
     if entries == 0 {
         return Ok(Outcome::Nothing);
     }
-    let mut k: u32 = 0;
     // One turn for each entry of the journal: at most as many as it has room for.
-    while k < entries {
+    for k in 0..entries {
         let at = word::ENTRY * (k as usize);
-        let s1 = table_words::get(t, z, Table::Journal, at);
-        let g1 = table_words::get(t, z, Table::Journal, at + word::GENERATION1);
-        let s2 = table_words::get(t, z, Table::Journal, at + word::SLOT2);
-        let g2 = table_words::get(t, z, Table::Journal, at + word::GENERATION2);
-        count_entry(t, z, s1, g1, s2, g2);
-        k += 1;
+        let first = table_words::handle_at(t, z, Table::Journal, at);
+        let second = table_words::handle_at(t, z, Table::Journal, at + word::SLOT2);
+        count_entry(t, z, first, second);
     }
     table_words::set(t, z, Table::Head, word::JOURNAL_USED, 0);
     Ok(Outcome::Done)

@@ -1,51 +1,36 @@
+-- `core_remove::remove_on` meets its contract, by what the island of the body says of its slot.
 use native.Mathlib.Omega.{arith}
 use mathlib.Core.Path.{sym, ◌∙◌}
-use Rattle.core_laws.proofs.Names.{named_is}
-use Rattle.core_laws.proofs.Leave.{home_lt}
-use Rattle.core_remove.proofs.Laws.{some-body, not_named, no-island, removed-only, removed-some}
+use Rattle.core_remove.proofs.Laws.{nowhere, slot_in, home-i, island_in, peopled, left-alone, left-others}
 use Rattle.core_remove.proofs.remove_on.Goals as goal
 
-pub returns-then-not-is_named : goal.returns-then-not-is_named
-returns-then-not-is_named c = not_named c.args.s c.args.g c.requires (sym c.is_named.ensures ∙ c.if-not-is_named.true)
+pub returns-in_default : goal.returns-in_default
+returns-in_default c = nowhere c.args.h.slot.0 c.args.h.generation c.requires c.in_default.ensures
 
-pub home-i-requires : goal.home-i-requires
-home-i-requires c =
-    let n = sym c.is_named.ensures ∙ c.if-not-is_named.false in
-    let l = (named_is c.args.z c.args.t.now c.args.s c.args.g n).slot_lt in
-    (c.requires.long, (let m = c.requires.good.slots_le in omega arith))
-
-pub returns-then-i : goal.returns-then-i
-returns-then-i c =
-    let n = sym c.is_named.ensures ∙ c.if-not-is_named.false in
-    let l = (named_is c.args.z c.args.t.now c.args.s c.args.g n).slot_lt in
-    no-island c.args.s c.args.g c.requires n l (sym c.home-i.ensures.0 ∙ c.if-i.true)
-
-pub count-bodies-requires : goal.count-bodies-requires
-count-bodies-requires c =
-    let n = sym c.is_named.ensures ∙ c.if-not-is_named.false in
-    let l = (named_is c.args.z c.args.t.now c.args.s c.args.g n).slot_lt in
-    (c.requires.long, (let h = home_lt c.args.s c.home-i.result c.requires l (sym c.home-i.ensures.0) c.if-i.false in let m = c.requires.good.islands_le in omega arith))
+pub count-requires : goal.count-requires
+count-requires c = (c.requires.long, island_in c.args.h.slot.0 c.args.h.generation c.requires c.in-Some.i c.in-Some.ensures.0 c.in-Some.ensures.1)
 
 pub remove_only-requires : goal.remove_only-requires
 remove_only-requires c =
-    let n = sym c.is_named.ensures ∙ c.if-not-is_named.false in
-    let l = (named_is c.args.z c.args.t.now c.args.s c.args.g n).slot_lt in
-    (c.requires, l, sym c.home-i.ensures.0, c.if-i.false, sym c.count-bodies.ensures.0 ∙ c.if-bodies-eq1.true)
-
-pub returns-then-bodies-eq1 : goal.returns-then-bodies-eq1
-returns-then-bodies-eq1 c =
-    let n = sym c.is_named.ensures ∙ c.if-not-is_named.false in
-    let l = (named_is c.args.z c.args.t.now c.args.s c.args.g n).slot_lt in
-    removed-only c.args.s c.args.g c.requires n l c.home-i.result (sym c.home-i.ensures.0) c.if-i.false (sym c.count-bodies.ensures.0 ∙ c.if-bodies-eq1.true) c.remove_only.ensures
+    let e = c.in-Some.ensures in
+    let s = c.args.h.slot.0 in
+    let g = c.args.h.generation in
+    (c.requires, slot_in s g c.requires c.in-Some.i e.0 e.1, home-i s g c.requires c.in-Some.i e.0 e.1, e.1, sym c.count.ensures.0 ∙ c.if-count-eq1.true)
 
 pub leave_some-requires : goal.leave_some-requires
 leave_some-requires c =
-    let n = sym c.is_named.ensures ∙ c.if-not-is_named.false in
-    let l = (named_is c.args.z c.args.t.now c.args.s c.args.g n).slot_lt in
-    (c.requires, l, sym c.home-i.ensures.0, c.if-i.false, omega (arith, some-body c.args.s c.home-i.result c.requires l (sym c.home-i.ensures.0) c.if-i.false, c.count-bodies.ensures.0, c.if-bodies-eq1.false))
+    let e = c.in-Some.ensures in
+    let s = c.args.h.slot.0 in
+    let g = c.args.h.generation in
+    (c.requires, slot_in s g c.requires c.in-Some.i e.0 e.1, home-i s g c.requires c.in-Some.i e.0 e.1, e.1, omega (arith, peopled s g c.requires c.in-Some.i e.0 e.1, c.count.ensures.0, c.if-count-eq1.false))
 
-pub returns : goal.returns
-returns c =
-    let n = sym c.is_named.ensures ∙ c.if-not-is_named.false in
-    let l = (named_is c.args.z c.args.t.now c.args.s c.args.g n).slot_lt in
-    removed-some c.args.s c.args.g c.requires n l c.home-i.result (sym c.home-i.ensures.0) c.if-i.false (omega (arith, some-body c.args.s c.home-i.result c.requires l (sym c.home-i.ensures.0) c.if-i.false, c.count-bodies.ensures.0, c.if-bodies-eq1.false)) c.leave_some.ensures
+pub returns-then-count-eq1 : goal.returns-then-count-eq1
+returns-then-count-eq1 c =
+    let e = c.in-Some.ensures in
+    left-alone c.args.h.slot.0 c.args.h.generation c.requires c.in-Some.i e.0 e.1 (sym c.count.ensures.0 ∙ c.if-count-eq1.true) c.remove_only.ensures
+
+pub returns-else-count-eq1 : goal.returns-else-count-eq1
+returns-else-count-eq1 c =
+    let e = c.in-Some.ensures in
+    let p = peopled c.args.h.slot.0 c.args.h.generation c.requires c.in-Some.i e.0 e.1 in
+    left-others c.args.h.slot.0 c.args.h.generation c.requires c.in-Some.i e.0 e.1 (omega (arith, p, c.count.ensures.0, c.if-count-eq1.false)) c.leave_some.ensures

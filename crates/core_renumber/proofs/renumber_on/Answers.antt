@@ -13,5 +13,5 @@ returns-then-home c = edge-linked c.args.removed c.args.last c.requires (let e =
 pub returns-then-last_edge-last : goal.returns-then-last_edge-last
 returns-then-last_edge-last c = edge-not-last c.args.removed c.args.last c.requires (let e = c.get-tracked.ensures.0 in omega (arith, c.if-removed-tracked.false)) (cc) (let e = c.get-tracked.ensures.0 in let h = c.if-removed-tracked.false in let d = c.if-last_edge-last.true in omega arith)
 
-pub returns-then-last_home : goal.returns-then-last_home
-returns-then-last_home c = shrunk c.args.removed c.args.last c.requires (let e = c.get-tracked.ensures.0 in omega (arith, c.if-removed-tracked.false)) (sym c.home-home.ensures.0 ∙ c.if-home.false) (let e = c.get-tracked.ensures.0 in let h = c.if-removed-tracked.false in let d = c.if-last_edge-last.false in omega arith) (sym c.home-last_home.ensures.0 ∙ c.if-last_home.true) c.set.ensures
+pub returns-then-home-2 : goal.returns-then-home-2
+returns-then-home-2 c = shrunk c.args.removed c.args.last c.requires (let e = c.get-tracked.ensures.0 in omega (arith, c.if-removed-tracked.false)) (sym c.home-home.ensures.0 ∙ c.if-home.false) (let e = c.get-tracked.ensures.0 in let h = c.if-removed-tracked.false in let d = c.if-last_edge-last.false in omega arith) (sym c.home.ensures.0 ∙ c.if-home-2.true) c.set.ensures

@@ -1,28 +1,34 @@
 use native.Mathlib.Omega.{arith}
 use mathlib.Core.Path.{sym, ◌∙◌}
 use mathlib.Core.Logic.{inl, inr}
-use Rattle.core_laws.proofs.Unlink.{island-lives}
+use Rattle.core_laws.proofs.Leave.{one-more}
+use Rattle.core_laws.proofs.Unlink.{island-lives, island-same, island-other}
 use Rattle.core_laws.proofs.Resolve.{counted_none, counted-some}
 use Rattle.core_resolve.proofs.count_entry.Goals as goal
 
-pub returns-then-i : goal.returns-then-i
-returns-then-i c = counted_none c.args.s1 c.args.g1 c.args.s2 c.args.g2 c.requires (inl (sym c.body_island-i.ensures ∙ c.if-i.true))
-
-pub returns-then-i-j : goal.returns-then-i-j
-returns-then-i-j c = counted_none c.args.s1 c.args.g1 c.args.s2 c.args.g2 c.requires (inr (λ e. c.if-i-j.true (c.body_island-i.ensures ∙ e ∙ sym c.body_island-j.ensures)))
+pub returns-in_default : goal.returns-in_default
+returns-in_default c = counted_none c.args.first.slot.0 c.args.first.generation c.args.second.slot.0 c.args.second.generation c.requires (inl c.in_default.ensures)
 
 pub get-removals-requires : goal.get-removals-requires
 get-removals-requires c =
-    let L = rw (sym c.body_island-i.ensures) at (island-lives c.args.s1 c.args.g1 c.requires (λ e. c.if-i.false (c.body_island-i.ensures ∙ e))) in
+    let e = c.in-Some.ensures in
+    let L = rw (sym e.0) at (island-lives c.args.first.slot.0 c.args.first.generation c.requires (λ x. e.1 (e.0 ∙ x))) in
     (c.requires.long, (let a = L.in_use in let b = c.requires.good.islands_le in omega arith))
 
 pub set-requires : goal.set-requires
 set-requires c =
-    let L = rw (sym c.body_island-i.ensures) at (island-lives c.args.s1 c.args.g1 c.requires (λ e. c.if-i.false (c.body_island-i.ensures ∙ e))) in
+    let e = c.in-Some.ensures in
+    let L = rw (sym e.0) at (island-lives c.args.first.slot.0 c.args.first.generation c.requires (λ x. e.1 (e.0 ∙ x))) in
     (c.requires.long, (let a = L.in_use in let b = c.requires.good.islands_le in omega arith))
 
-pub returns : goal.returns
-returns c =
-    let L = rw (sym c.body_island-i.ensures) at (island-lives c.args.s1 c.args.g1 c.requires (λ e. c.if-i.false (c.body_island-i.ensures ∙ e))) in
-    let P = rw (c.one_more-more.ensures, c.get-removals.ensures.0) at c.set.ensures in
-    counted-some c.args.s1 c.args.g1 c.args.s2 c.args.g2 c.body_island-i.result c.requires c.body_island-i.ensures (c.if-i-j.false ∙ c.body_island-j.ensures) c.if-i.false L.in_use L.some P
+pub returns-then-eq : goal.returns-then-eq
+returns-then-eq c =
+    let e = c.in-Some.ensures in
+    let L = rw (sym e.0) at (island-lives c.args.first.slot.0 c.args.first.generation c.requires (λ x. e.1 (e.0 ∙ x))) in
+    let P = rw (c.saturating_add.ensures ∙ one-more c.get-removals.result c.get-removals.ensures.1, c.get-removals.ensures.0) at c.set.ensures in
+    counted-some c.args.first.slot.0 c.args.first.generation c.args.second.slot.0 c.args.second.generation c.in-Some.i c.requires e.0 (island-same c.body_island-2.result c.in-Some.i c.body_island-2.ensures c.if-eq.ensures) e.1 L.in_use L.some P
+
+pub returns-else-eq : goal.returns-else-eq
+returns-else-eq c =
+    let e = c.in-Some.ensures in
+    counted_none c.args.first.slot.0 c.args.first.generation c.args.second.slot.0 c.args.second.generation c.requires (inr (λ q. island-other c.body_island-2.result c.in-Some.i c.body_island-2.ensures c.if-eq.ensures e.1 (e.0 ∙ q)))

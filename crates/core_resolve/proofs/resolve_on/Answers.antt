@@ -1,7 +1,6 @@
--- `core_resolve::resolve_on` meets its contract. The loop has counted the first k entries, in order (`Counts`). Measure: the entries that are left.
+-- `core_resolve::resolve_on` meets its contract. The loop has counted the first k entries, in order (`Counts`).
 use native.Mathlib.Omega.{arith}
-use mathlib.Core.Path.{◌≡◌, sym, ◌∙◌, subst}
-use Prim.Native.Nat.{ℕ, ◌<◌}
+use mathlib.Core.Path.{◌≡◌, sym, ◌∙◌}
 use Rattle.def_kinds.specs.Answers.{Nothing}
 use Rattle.core_laws.proofs.Then.{refused}
 use Rattle.core_laws.proofs.Resolve.{counts_step, resolve-none, resolved}
@@ -12,10 +11,12 @@ returns-then-entries-eq0 c = refused _ Nothing c.requires (resolve-none c.args.z
 
 pub loop-k-preserved : goal.loop-k-preserved
 loop-k-preserved c =
-    let D = rw (c.get-s1.ensures.0, c.get-g1.ensures.0, c.get-s2.ensures.0, c.get-g2.ensures.0) at c.count_entry.ensures in
-    (counts_step c.loop-k.k (subst (λ (x : ℕ). c.loop-k.k < x) c.get-entries.ensures.0 c.loop-k-test.true) c.loop-k.invariant.0 D, omega (arith, c.loop-k-test.true))
+    let a = c.handle_at-first.ensures in
+    let b = c.handle_at-second.ensures in
+    let D = rw (a.0, a.1, b.0, b.1) at c.count_entry.ensures in
+    counts_step c.loop-k.k (omega (arith, c.get-entries.ensures.0, c.loop-k-test.true)) c.loop-k.invariant D
 
 pub returns : goal.returns
 returns c =
-    let q : c.loop-k.k ≡ c.get-entries.result = omega (arith, c.loop-k-test.false, c.loop-k.invariant.1) in
-    resolved c.loop-k.k (q ∙ c.get-entries.ensures.0) (λ e. c.if-entries-eq0.false (sym q ∙ e)) c.loop-k.invariant.0 c.set.ensures
+    let q : c.loop-k.k ≡ c.get-entries.result = omega (arith, c.loop-k-test.false, c.loop-k.auto.k-end) in
+    resolved c.loop-k.k (q ∙ c.get-entries.ensures.0) (λ e. c.if-entries-eq0.false (sym q ∙ e)) c.loop-k.invariant c.set.ensures

@@ -4,6 +4,7 @@
 ghost use Rattle.std.specs.Prelude.{◌≡◌, ℕ, ◌+◌, ◌*◌, ◌<◌, ◌≤◌};
 ghost use Rattle.list_in_table.specs.Rules.{none};
 ghost use Rattle.def_state.specs.World.{named};
+ghost use Rattle.def_state.specs.Chain.{chainable};
 ghost use Rattle.def_state.specs.Bodies.{put, flags as flags_step};
 ghost use Rattle.table_meaning.specs.Layout.{tables, extents, members_in};
 ghost use Rattle.table_meaning.specs.Decode.{world_of, bit_of};
@@ -23,6 +24,17 @@ pub fn is_named(t: &[u32], z: Sizes, h: Handle) -> bool
     h.generation != NONE
         && s < table_words::get(t, z, Table::Head, word::SLOTS_USED)
         && table_words::get(t, z, Table::Slots, word::SLOT * (s as usize)) == h.generation
+}
+
+// Is it a live, enabled, non-fixed body?
+pub fn is_chainable(t: &[u32], z: Sizes, h: Handle) -> bool
+    requires { Sound z t.now }
+    ensures { result ≡ chainable (world_of z t.now) (handle h.slot.0 h.generation) }
+{
+    let at = word::SLOT * (h.slot.0 as usize);
+    is_named(t, z, h)
+        && table_words::get(t, z, Table::Slots, at + word::FIXED) != 1
+        && table_words::get(t, z, Table::Slots, at + word::ENABLED) == 1
 }
 
 // The slot n, the first that is not in use, comes into use, vacant.

@@ -1,12 +1,17 @@
 -- Whom a chain links by its words, and the turns of the loops of a chain refresh.
 use mathlib.Core.Path.{◌≡◌, refl, sym, ◌∙◌, ap, subst}
 use mathlib.Core.Logic.{◌≢◌, inr}
-use mathlib.Core.Bool.{Bool, true, false, not, false≢true}
+use mathlib.Core.Bool.{Bool, true, false, not, ◌&&◌, cond, false≢true}
 use mathlib.Core.List.{List, [], ◌∷◌}
-use Prim.Native.Nat.{ℕ, suc, ◌+◌, ◌-◌, ◌*◌, ◌≤◌, ◌<◌}
+use Prim.Native.Nat.{ℕ, zero, suc, ◌+◌, ◌-◌, ◌*◌, ◌≤◌, ◌<◌}
 use native.Mathlib.Omega.{arith}
 use borrow.Author.Tests.{eq-eqb, ne_eqb}
+use lib.Dec.{eqb}
 use lib.ListN.{length, get_or}
+use Rattle.std.specs.declared.option.Option.{Option}
+use Rattle.std.specs.declared.option.Option.TheVariants.{None, Some}
+use Rattle.std.specs.List.{filter, range_with_len}
+use Rattle.std.specs.Option.{MatchOption, is_some}
 use Rattle.list_in_table.specs.Rules.{none}
 use Rattle.def_kinds.specs.Choice.{pick}
 use Rattle.def_kinds.specs.declared.Sizes.{Sizes}
@@ -22,48 +27,14 @@ use Rattle.table_meaning.specs.Does.{Does}
 use Rattle.table_meaning.proofs.Frame.{kept_then}
 use Rattle.table_meaning.proofs.Unique.{journal_is}
 use Rattle.core_laws.specs.Steps.{handle}
-use Rattle.core_laws.specs.Places.{Finds}
+use Rattle.core_laws.specs.Places.{KeyAt, Unlinked}
 use Rattle.core_laws.specs.Chaining.{handles_from, Onward, CameBySteps, link_rest, LinkedOn}
 use Rattle.core_chain.specs.Linking.{present}
 use Rattle.core_laws.proofs.Then.{refused}
 use Rattle.core_laws.proofs.Names.{named_is}
 use Rattle.core_laws.proofs.Put.{body-word}
-use Rattle.core_laws.proofs.JointKeys.{joint-home_none, joint-home, found_none, found_at}
-use Rattle.core_laws.proofs.Chaining.{onward_then, larger-of, unlink-on, link_on, came-start, came-step, came-done, length-missing, length-linked, length-end, unlinked-step, unlinked-end, handles-more, chainable-same, chained-yes, chained-no, chained-end, rest-first, rest-next, rest_end, rest-start, handles-length, refresh-long, refresh-full, refresh-journal, refresh-done}
-
--- ---- whom a chain links
-module _ (Z : Sizes) (t : List ℕ) (s g : ℕ) where
-  abbrev w : World
-  w = world_of Z t
-
-  abbrev h : Handle
-  h = handle s g
-
-  pub chain-absent : named w h ≡ false → false ≡ chainable w h
-  unfolding chainable
-  chain-absent e = sym (rw e)
-
-  module _ (n : named w h ≡ true) where
-    pub slot-in : s < (extents (tables Z t)).slots
-    slot-in = (named_is Z t s g n).slot_lt
-
-    fixed-is : (body_of w s).fixed ≡ flag (get_or (tables Z t).slots (5 * s + 2) 0)
-    fixed-is = ap (λ (b : Body). b.fixed) (body-word Z t s slot-in)
-
-    enabled-is : (body_of w s).enabled ≡ flag (get_or (tables Z t).slots (5 * s + 3) 0)
-    enabled-is = ap (λ (b : Body). b.enabled) (body-word Z t s slot-in)
-
-    pub chain-fixed : get_or (tables Z t).slots (5 * s + 2) 0 ≡ 1 → false ≡ chainable w h
-    unfolding chainable
-    chain-fixed f = let x = fixed-is ∙ eq-eqb _ 1 f in sym (rw (n, x))
-
-    pub chain-off : get_or (tables Z t).slots (5 * s + 2) 0 ≢ 1 → get_or (tables Z t).slots (5 * s + 3) 0 ≢ 1 → false ≡ chainable w h
-    unfolding chainable
-    chain-off f e = let x = fixed-is ∙ ne_eqb _ 1 f in let y = enabled-is ∙ ne_eqb _ 1 e in sym (rw (n, x, y))
-
-    pub chain-on : get_or (tables Z t).slots (5 * s + 2) 0 ≢ 1 → get_or (tables Z t).slots (5 * s + 3) 0 ≡ 1 → true ≡ chainable w h
-    unfolding chainable
-    chain-on f e = let x = fixed-is ∙ ne_eqb _ 1 f in let y = enabled-is ∙ eq-eqb _ 1 e in sym (rw (n, x, y))
+use Rattle.core_laws.proofs.JointKeys.{joint-home_none, joint-home}
+use Rattle.core_laws.proofs.Chaining.{onward_then, larger-of, unlink-on, link_on, came-start, came-step, came-done, length-missing, length-linked, length-end, unlinked-step, unlinked-end, handles-more, chainable-same, chained-end, rest-first, rest-next, rest_end, rest-start, handles-length, refresh-long, refresh-full, refresh-journal, refresh-done}
 
 -- ---- the body that was linked last: the absent handle names none, so a generation that is not its stands for a body
 chain-top : (w : World) (s g : ℕ) → g ≡ none → chainable w (handle s g) ≡ false
@@ -118,33 +89,32 @@ module _ (Z : Sizes) (t : List ℕ) (high low : ℕ) where
   pub old-end : (o : ℕ) → Passed o → Z.joints ≤ o → o ≡ old_length Z (world_of Z t) high low
   old-end o P l = omega (arith, length-end (world_of Z t) high low o Z.joints l)
 
-  module _ (o r : ℕ) (S : Sound Z t) (F : Finds Z (tables Z t) 1 high low o r) where
-    pub old-missing : Passed o → r ≡ none → o ≡ old_length Z (world_of Z t) high low
-    old-missing P e =
-        omega (arith, length-missing (world_of Z t) high low o (Z.joints - o) (joint-home_none 1 high low o S (inr refl) (found_none S F e)))
+  module _ (o : ℕ) (S : Sound Z t) (P : Passed o) where
+    pub old-missing : Unlinked Z (tables Z t) 1 high low o → o ≡ old_length Z (world_of Z t) high low
+    old-missing n = omega (arith, length-missing (world_of Z t) high low o (Z.joints - o) (joint-home_none 1 high low o S (inr refl) n), P)
 
-    pub old-turn : Passed o → o < Z.joints → r ≢ none → Passed (o + 1)
-    old-turn P l d =
-        let A = found_at S F d in
-        omega (arith, length-linked (world_of Z t) high low o Z.joints l (λ e. A.keyed.linked (sym (joint-home 1 high low o S (inr refl) r A) ∙ e)))
+    pub old-turn : (r : ℕ) → o < Z.joints → KeyAt Z (tables Z t) 1 high low o r → Passed (o + 1)
+    old-turn r l A = omega (arith, length-linked (world_of Z t) high low o Z.joints l (λ e. A.keyed.linked (sym (joint-home 1 high low o S (inr refl) r A) ∙ e)), P)
+
+-- what a search found, where it is known whether it found something
+pub nothing-there : (N : Type 0) (P : ℕ → Type 0) (r : Option ℕ) → MatchOption r N P → is_some r ≡ false → N
+nothing-there N P None f e = f
+nothing-there N P (Some p) f e = absurd (false≢true (sym e))
+
+pub something-there : (N : Type 0) (P : ℕ → Type 0) (r : Option ℕ) → MatchOption r N P → is_some r ≡ true → (p : ℕ) × P p
+something-there N P None f e = absurd (false≢true e)
+something-there N P (Some p) f e = (p, f)
 
 -- ---- how many bodies of the list
-module _ (w : World) (x : List ℕ) (n k c : ℕ) where
-  abbrev Counted : ℕ → ℕ → Type 0
-  Counted k c = c + length (chained w (handles_from x k (n - k))) ≡ length (chained w (handles_from x 0 n))
+same-length : (b : Bool) (k : ℕ) (h : Handle) (ks : List ℕ) (hs : List Handle) → length ks ≡ length hs → length (cond b (k ∷ ks) ks) ≡ length (pick b (h ∷ hs) hs)
+same-length true k h ks hs e = ap suc e
+same-length false k h ks hs e = e
 
-  pub count-end : Counted k c → n ≤ k → c ≡ length (chained w (handles_from x 0 n))
-  count-end C l = let e : length (chained w (handles_from x k (n - k))) ≡ 0 = ap length (chained-end w x k n l) in omega arith
-
-  module _ (C : Counted k c) (l : k < n) where
-    pub count_yes : chainable w (handle_at x (2 * k)) ≡ true → Counted (k + 1) (c + 1)
-    count_yes e = let q : length (chained w (handles_from x k (n - k))) ≡ suc (length (chained w (handles_from x (k + 1) (n - (k + 1))))) = ap length (chained-yes w x k n l e) in omega arith
-
-    pub count_no : chainable w (handle_at x (2 * k)) ≡ false → Counted (k + 1) c
-    count_no e = let q : length (chained w (handles_from x k (n - k))) ≡ length (chained w (handles_from x (k + 1) (n - (k + 1)))) = ap length (chained-no w x k n l e) in omega arith
-
-pub count-start : (w : World) (x : List ℕ) (n : ℕ) → 0 + length (chained w (handles_from x 0 (n - 0))) ≡ length (chained w (handles_from x 0 n))
-count-start w x n = let e : n - 0 ≡ n = omega arith in rw e (omega arith)
+pub chained-count : (w : World) (x : List ℕ) (k m : ℕ) → length (filter (λ j. chainable w (handle_at x (2 * j))) (range_with_len k m)) ≡ length (chained w (handles_from x k m))
+unfolding chained handles_from
+chained-count w x k zero = refl
+chained-count w x k (suc m) =
+    same-length (chainable w (handle_at x (2 * k))) k (handle_at x (2 * k)) _ _ (chained-count w x (k + 1) m)
 
 -- ---- the unlinking
 module _ (Z : Sizes) (t₀ : List ℕ) (high low n : ℕ) where

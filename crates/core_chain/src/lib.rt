@@ -1,7 +1,7 @@
 // Chain refresh: the old chain of a multibody is unlinked, then a new one is linked over the given bodies.
 #![tactic(auto)]
 
-ghost use Rattle.std.specs.Prelude.{◌≡◌, ◌*◌, ◌<◌, ◌≤◌, length};
+ghost use Rattle.std.specs.Prelude.{◌≡◌, ◌+◌, ◌*◌, ◌/◌, ◌%◌, ◌<◌, ◌≤◌, length, get_or};
 ghost use Rattle.list_in_table.specs.Rules.{none};
 ghost use Rattle.def_state.specs.Chain.{chainable, chained, old_length, unlinked, linked_all, refresh_multibody_chain};
 ghost use Rattle.table_meaning.specs.Decode.{world_of};
@@ -11,77 +11,55 @@ ghost use Rattle.core_laws.specs.Steps.{handle};
 ghost use Rattle.core_laws.specs.Chaining.{handles_from, CameBySteps, LinkedOn};
 ghost use Rattle.core_chain.specs.Linking.{present};
 
-use def_kinds::{Answer, Handle, NONE, Outcome, Refusal, Sizes, Slot};
+use def_kinds::{Answer, Handle, JointKey, NONE, Outcome, Refusal, Sizes, Slot};
 use table_meaning::{Table, word};
 
-// Is it a live, enabled, non-fixed body?
-fn is_chainable(t: &[u32], z: Sizes, s: u32, g: u32) -> bool
-    requires { Sound z t.now }
-    ensures { result ≡ chainable (world_of z t.now) (handle s g) }
-{
-    if !core_body::is_named(t, z, s, g) {
-        return false;
-    }
-    let fixed = table_words::get(t, z, Table::Slots, word::SLOT * (s as usize) + word::FIXED);
-    if fixed == 1 {
-        return false;
-    }
-    let enabled = table_words::get(t, z, Table::Slots, word::SLOT * (s as usize) + word::ENABLED);
-    if enabled != 1 {
-        return false;
-    }
-    true
-}
-
 // How many ordinals from 0 on are linked, up to the first that is missing.
-fn old_length(t: &[u32], z: Sizes, high: u32, low: u32) -> u32
+fn old_length(t: &[u32], z: Sizes, multibody: u64) -> u32
     requires { Sound z t.now }
-    ensures { (result ≡ old_length z (world_of z t.now) high low) × (result ≤ z.joints) }
+    ensures { (result ≡ old_length z (world_of z t.now) (multibody / 4294967296) (multibody % 4294967296)) × (result ≤ z.joints) }
 {
-    let capacity = z.joints;
     let mut ordinal: u32 = 0;
     // The walk stops at the first absent key, and after as many turns as there are joint links at most.
-    let old = loop {
-        if ordinal >= capacity {
+    loop {
+        if ordinal >= z.joints {
             break ordinal;
         }
-        let p = core_joint::find_place(t, z, 1, high, low, ordinal);
-        if p == NONE {
+        if core_joint::find_place(t, z, JointKey::Chain { multibody, ordinal }).is_none() {
             break ordinal;
         }
         ordinal += 1;
-    };
-    old
+    }
 }
 
-// How many bodies of the list, n handles of two words, the new chain links.
-fn count_chainable(t: &[u32], z: Sizes, list: &[u32], n: u32) -> u32
-    requires { Sound z t.now × (2 * n ≤ length list.now) }
-    ensures { (result ≡ length (chained (world_of z t.now) (handles_from list.now 0 n))) × (result ≤ n) }
+// The k-th handle of a list that has two words a handle.
+fn handle_in(list: &[u32], k: usize) -> Handle
+    requires { 2 * k + 1 < length list.now }
+    ensures { (result.slot.0 ≡ get_or list.now (2 * k) 0) × (result.generation ≡ get_or list.now (2 * k + 1) 0) }
 {
-    let mut found: u32 = 0;
-    let mut k: u32 = 0;
+    Handle::new(Slot(list[2 * k]), list[2 * k + 1])
+}
+
+// How many bodies of the list, which has two words a handle, the new chain links.
+fn count_chainable(t: &[u32], z: Sizes, list: &[u32]) -> usize
+    requires { Sound z t.now }
+    ensures { result ≡ length (chained (world_of z t.now) (handles_from list.now 0 (length list.now / 2))) }
+{
     // One turn for each handle of the list.
-    while k < n {
-        let at = 2 * (k as usize);
-        if is_chainable(t, z, list[at], list[at + 1]) {
-            found += 1;
-        }
-        k += 1;
-    }
-    found
+    (0..list.len() / 2)
+        .filter(|k| core_body::is_chainable(t, z, handle_in(list, *k)))
+        .count()
 }
 
 // The first n ordinals are unlinked.
-fn unlink_chain(t: &mut [u32], z: Sizes, high: u32, low: u32, n: u32)
+fn unlink_chain(t: &mut [u32], z: Sizes, multibody: u64, n: u32)
     requires { Sound z t.old }
-    ensures { CameBySteps z t.old t.new (unlinked z high low 0 n (world_of z t.old)) }
+    ensures { CameBySteps z t.old t.new (unlinked z (multibody / 4294967296) (multibody % 4294967296) 0 n (world_of z t.old)) }
 {
-    let mut ordinal: u32 = 0;
     // One turn for each link of the old chain.
-    while ordinal < n {
-        core_joint::unlink_joint_on(t, z, 1, high, low, ordinal);
-        ordinal += 1;
+    for ordinal in 0..n {
+        // The caller has seen to it that the journal has room.
+        let _ = core_joint::unlink_joint_on(t, z, JointKey::Chain { multibody, ordinal });
     }
 }
 
@@ -93,72 +71,63 @@ struct Linking {
 }
 
 // The next handle of the list. The ordinal rises for each pair, also where no link was recorded.
-fn link_next(t: &mut [u32], z: Sizes, high: u32, low: u32, c: Linking, s: u32, g: u32) -> Linking
-    requires { Sound z t.old × (c.ordinal < none) }
-    ensures { LinkedOn z high low (present c.last.generation) c.ordinal (handle c.last.slot.0 c.last.generation) (handle s g) (present result.last.generation) result.ordinal (handle result.last.slot.0 result.last.generation) t.old t.new }
+fn link_next(t: &mut [u32], z: Sizes, multibody: u64, linking: Linking, next: Handle) -> Linking
+    requires { Sound z t.old × (linking.ordinal < none) }
+    ensures { LinkedOn z (multibody / 4294967296) (multibody % 4294967296) (present linking.last.generation) linking.ordinal (handle linking.last.slot.0 linking.last.generation) (handle next.slot.0 next.generation) (present result.last.generation) result.ordinal (handle result.last.slot.0 result.last.generation) t.old t.new }
 {
-    if !is_chainable(t, z, s, g) {
-        return c;
+    if !core_body::is_chainable(t, z, next) {
+        return linking;
     }
-    let next = Handle {
-        slot: Slot(s),
-        generation: g,
-    };
-    let last = c.last;
-    let generation = last.generation;
+    let Linking { last, ordinal } = linking;
     // The absent handle: no body was linked yet.
-    if generation == NONE {
+    if last.generation == NONE {
         return Linking {
             last: next,
             ordinal: 0,
         };
     }
-    let slot = last.slot;
-    core_link::link_joint_on(t, z, 1, high, low, c.ordinal, slot.0, generation, s, g);
+    // Where neither body is a member, no link is recorded.
+    let _ = core_link::link_joint_on(t, z, JointKey::Chain { multibody, ordinal }, last, next);
     Linking {
         last: next,
-        ordinal: c.ordinal + 1,
+        ordinal: ordinal + 1,
     }
 }
 
-// Successive bodies of the list are linked.
-fn link_chain(t: &mut [u32], z: Sizes, high: u32, low: u32, list: &[u32], n: u32)
-    requires { Sound z t.old × (2 * n ≤ length list.now) }
-    ensures { CameBySteps z t.old t.new (linked_all z high low (chained (world_of z t.old) (handles_from list.now 0 n)) (world_of z t.old)) }
+// Successive bodies of the list, which has two words a handle, are linked.
+fn link_chain(t: &mut [u32], z: Sizes, multibody: u64, list: &[u32])
+    requires { Sound z t.old × (length list.now / 2 ≤ none) }
+    ensures { CameBySteps z t.old t.new (linked_all z (multibody / 4294967296) (multibody % 4294967296) (chained (world_of z t.old) (handles_from list.now 0 (length list.now / 2))) (world_of z t.old)) }
 {
     let mut linking = Linking {
         last: Handle::ABSENT,
         ordinal: 0,
     };
-    let mut k: u32 = 0;
     // One turn for each handle of the list.
-    while k < n {
-        let at = 2 * (k as usize);
-        linking = link_next(t, z, high, low, linking, list[at], list[at + 1]);
-        k += 1;
+    for k in 0..list.len() / 2 {
+        linking = link_next(t, z, multibody, linking, handle_in(list, k));
     }
 }
 
-// Chain refresh of the multibody with these high and low 32 bits, on sound tables. The list has two words a handle.
-pub fn refresh_on(t: &mut [u32], z: Sizes, high: u32, low: u32, list: &[u32], n: u32) -> Answer
-    requires { Sound z t.old × (2 * n ≤ length list.now) }
-    ensures { Does z (refresh_multibody_chain z high low (handles_from list.now 0 n)) t.old result t.new }
+// Chain refresh of the multibody, on sound tables. The list has two words a handle.
+pub fn refresh_on(t: &mut [u32], z: Sizes, multibody: u64, list: &[u32]) -> Answer
+    requires { Sound z t.old }
+    ensures { Does z (refresh_multibody_chain z (multibody / 4294967296) (multibody % 4294967296) (handles_from list.now 0 (length list.now / 2))) t.old result t.new }
 {
-    if n > z.slots {
+    if list.len() / 2 > (z.slots as usize) {
         return Err(Refusal::JointsFull);
     }
-    let old_links = old_length(t, z, high, low);
-    let old = old_links as u64;
-    let new = count_chainable(t, z, list, n) as u64;
-    let room = core_joint::joint_room(t, z) as u64;
-    if room + old + 1 < new {
+    let old = old_length(t, z, multibody);
+    let new = count_chainable(t, z, list) as u64;
+    let room = u64::from(core_joint::joint_room(t, z));
+    if room + u64::from(old) + 1 < new {
         return Err(Refusal::JointsFull);
     }
-    let entries = table_words::get(t, z, Table::Head, word::JOURNAL_USED) as u64;
-    if (z.journal as u64) < entries + old {
+    let entries = u64::from(table_words::get(t, z, Table::Head, word::JOURNAL_USED));
+    if u64::from(z.journal) < entries + u64::from(old) {
         return Err(Refusal::JournalFull);
     }
-    unlink_chain(t, z, high, low, old_links);
-    link_chain(t, z, high, low, list, n);
+    unlink_chain(t, z, multibody, old);
+    link_chain(t, z, multibody, list);
     Ok(Outcome::Done)
 }

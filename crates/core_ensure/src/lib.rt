@@ -19,14 +19,7 @@ pub fn may_join(t: &[u32], z: Sizes, h: Handle) -> bool
     requires { Sound z t.now }
     ensures { result ≡ may_join (world_of z t.now) (handle h.slot.0 h.generation) }
 {
-    if !core_body::is_named(t, z, h) {
-        return false;
-    }
-    let s = h.slot.0;
-    let at = word::SLOT * (s as usize);
-    table_words::get(t, z, Table::Slots, at + word::FIXED) != 1
-        && table_words::get(t, z, Table::Slots, at + word::ENABLED) == 1
-        && table_words::home(t, z, Table::Members, s) == NONE
+    core_body::is_chainable(t, z, h) && table_words::home(t, z, Table::Members, h.slot.0) == NONE
 }
 
 // The words of an island number that is taken in: no bodies, no links, not observed, not yet in the free stack.

@@ -1,7 +1,7 @@
 -- The last freed number becomes an island of one body; with a free number made ready before, that is ensure.
 use mathlib.Core.Path.{◌≡◌, refl, sym, ◌∙◌, ap}
 use mathlib.Core.Logic.{inl, ◌≢◌, ⊎_elim}
-use mathlib.Core.Bool.{Bool, true, false, false≢true}
+use mathlib.Core.Bool.{Bool, true, false, ◌&&◌, false≢true}
 use mathlib.Core.List.{List, [], ◌∷◌, ◌++◌}
 use Prim.Native.Nat.{ℕ, zero, suc, ◌+◌, ◌-◌, ◌*◌, ◌≤◌, ◌<◌}
 use native.Mathlib.Omega.{arith}
@@ -14,11 +14,13 @@ use Rattle.list_in_table.specs.Table.{view, Wf, pushed, removed, PushReady, Remo
 use Rattle.list_in_table.proofs.Laws.{either, full}
 use Rattle.list_in_table.proofs.Order.{length-list, list-of}
 use Rattle.list_in_buffer.specs.Part.{Put}
+use Rattle.def_kinds.specs.Choice.{pick}
 use Rattle.def_kinds.specs.declared.Sizes.{Sizes}
 use Rattle.def_kinds.specs.Answers.{Done, Nothing}
 use Rattle.def_state.specs.Plain.{top, drop_last, last_of}
-use Rattle.def_state.specs.World.{Body, World, done, body_of, named}
+use Rattle.def_state.specs.World.{Handle, Body, World, done, body_of, named, island_of}
 use Rattle.def_state.specs.Fields.{islands_set, free_set, island_set}
+use Rattle.def_state.specs.Chain.{chainable}
 use Rattle.def_state.specs.Membership.{new_number, alloc_island, may_join, singleton, joined, ensure}
 use Rattle.table_meaning.specs.Layout.{Tables, tables, total, members_at, members_span, rows_at, rows_span, freed_at, freed_span, members_put, rows_put, Extents, extents, members_in, contacts_in, joints_in, freed_in}
 use Rattle.table_meaning.specs.Decode.{flag, decode, world_of}
@@ -229,6 +231,34 @@ module _ {Z : Sizes} {t : List ℕ} (s g : ℕ) (S : Sound Z t) where
           either (get_or (tables Z t).slots (5 * s + 3) 0) 1
           (λ d. record { name = named_is Z t s g e; not_fixed = f; is_enabled = d; no_member = eqb-true _ _ (sym (join-home e f d) ∙ h) })
           (λ d. absurd (false≢true (sym (join-disabled e f d) ∙ h))))
+
+-- ---- whom ensure takes: whom a chain links, where it is in no island
+picks : (a b c d : Bool) → pick a (pick b false (pick c d false)) false ≡ (pick a (pick b false c) false && d)
+picks true true c d = refl
+picks true false true d = refl
+picks true false false d = refl
+picks false b c d = refl
+
+join-chainable : (w : World) (h : Handle) → may_join w h ≡ (chainable w h && eqb (island_of w h.slot) top)
+unfolding may_join chainable
+join-chainable w h = picks (named w h) (body_of w h.slot).fixed (body_of w h.slot).enabled (eqb (island_of w h.slot) top)
+
+pub chainable-named : (w : World) (h : Handle) → chainable w h ≡ true → named w h ≡ true
+unfolding chainable
+chainable-named w h = go (named w h)
+  where
+    go : (a : Bool) → pick a (pick (body_of w h.slot).fixed false (body_of w h.slot).enabled) false ≡ true → a ≡ true
+    go true e = refl
+    go false e = e
+
+module _ {Z : Sizes} {t : List ℕ} (s g : ℕ) (S : Sound Z t) where
+  pub join_yes : chainable (world_of Z t) (handle s g) ≡ true → may_join (world_of Z t) (handle s g) ≡ eqb ((members_in Z (tables Z t)).home s) none
+  join_yes e =
+      let l = (named_is Z t s g (chainable-named _ _ e)).slot_lt in
+      join-chainable (world_of Z t) (handle s g) ∙ rw e (ap (λ (i : ℕ). eqb i none) (home_is Z t s g S l))
+
+  pub join_not : chainable (world_of Z t) (handle s g) ≡ false → may_join (world_of Z t) (handle s g) ≡ false
+  join_not e = join-chainable (world_of Z t) (handle s g) ∙ rw e refl
 
 -- ---- ensure
 joined-found : (w : World) (s : ℕ) → found s (body_of w s).sleeping (readied w) ≡ done (joined w s)

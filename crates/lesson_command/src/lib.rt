@@ -1,35 +1,19 @@
 // One line of a script, read into a command. LESSON-FORMAT.md says which lines there are.
 #![tactic(auto)]
 
-mod key;
-mod name;
-mod number;
 mod plain;
 mod words;
 
-use def_kinds::{Edge, Handle, Island, JointKey};
-use key::{Key, read_key};
-use name::{Name, arity, name_of};
-use number::{Count, Small, Wide, read_numbers, read_small, read_wide};
-use plain::{body_command, handle};
-use words::word_end;
+use def_kinds::{Edge, Flags, Handle, Island, JointKey, Slot};
+use plain::plain_command;
+use std::str::Split;
+use words::{read_numbers, read_small, read_wide};
 
 // How long the output that `finish` lends is where the script does not say, and at most.
-const ROOM: u32 = 4096;
+pub const ROOM: u32 = 4096;
 
-#[derive(Drop)]
-pub struct Flags {
-    pub fixed: bool,
-    pub enabled: bool,
-    pub sleeping: bool,
-}
-
-#[derive(Drop)]
-pub enum Command {
-    // An empty line or a comment.
-    Blank,
-    // None of the lines of the format.
-    Bad,
+#[derive(Clone, Copy)]
+pub enum Command<'a> {
     Reset,
     Put(Handle, Flags),
     Retire(Handle),
@@ -42,8 +26,8 @@ pub enum Command {
     Renumber { removed: Edge, last: Edge },
     Joint(JointKey, Handle, Handle),
     Unjoint(JointKey),
-    // The slots and generations of the handles are the first 2 * handles words of the list that `parse` was lent.
-    Chain { multibody: u64, handles: u32 },
+    // The handles are given by their slots and generations in turn.
+    Chain { multibody: u64, handles: &'a [u32] },
     Resolve,
     Split(Island),
     MayBid(Island),
@@ -58,94 +42,71 @@ pub enum Command {
     Dump,
 }
 
-// Reads a line. The numbers of 32 bits behind the first words go into `list`: a list of 65,536 words has room for those of the
-// longest line.
-pub fn parse(line: &[u8], list: &mut [u32]) -> Command {
-    if line.len() == 0 {
-        return Command::Blank;
+// The line is none of those of the format.
+#[derive(Clone, Copy, Debug, PartialEq, Eq)]
+pub struct BadLine;
+
+// Reads a line; an empty one and a comment have no command. Its numbers of 32 bits go into `list`: one of 65,536 words has room
+// for those of the longest line.
+pub fn parse<'a>(line: &[u8], list: &'a mut [u32]) -> Result<Option<Command<'a>>, BadLine> {
+    if let [] | [b'#', ..] = line {
+        return Ok(None);
     }
-    if line[0] == b'#' {
-        return Command::Blank;
-    }
-    let end = word_end(line, 0);
-    let name = name_of(&line[0..end]);
-    match name {
-        Name::Joint => joint_line(line, end, list),
-        Name::Unjoint => unjoint_line(line, end, list),
-        Name::Chain => chain_line(line, end, list),
-        Name::Finish => finish_line(line, end, list),
-        _ => plain_line(name, line, end, list),
+    let text = std::str::from_utf8(line).map_err(|_| BadLine)?;
+    let mut words = text.split(' ');
+    let command = match words.next() {
+        Some("joint") => joint(words, list)?,
+        Some("unjoint") => unjoint(words)?,
+        Some("chain") => chain(words, list)?,
+        Some(name) => plain_command(name, read_numbers(words, list)?)?,
+        None => return Err(BadLine),
+    };
+    Ok(Some(command))
+}
+
+// `i I G` or `c M O`, the key of a joint.
+fn read_key(words: &mut Split<'_, char>) -> Result<JointKey, BadLine> {
+    match words.next() {
+        Some("i") => Ok(JointKey::Impulse {
+            index: read_small(words.next())?,
+            generation: read_small(words.next())?,
+        }),
+        Some("c") => Ok(JointKey::Chain {
+            multibody: read_wide(words.next())?,
+            ordinal: read_small(words.next())?,
+        }),
+        _ => Err(BadLine),
     }
 }
 
-// A line of a name and a fixed count of numbers.
-fn plain_line(name: Name, line: &[u8], end: usize, list: &mut [u32]) -> Command {
-    let Count::Of(n) = read_numbers(line, end, list) else {
-        return Command::Bad;
-    };
-    if n != arity(name) {
-        return Command::Bad;
+// A key and two handles.
+fn joint<'a>(mut words: Split<'_, char>, list: &'a mut [u32]) -> Result<Command<'a>, BadLine> {
+    let key = read_key(&mut words)?;
+    match *read_numbers(words, list)? {
+        [s1, g1, s2, g2] => Ok(Command::Joint(key, handle(s1, g1), handle(s2, g2))),
+        _ => Err(BadLine),
     }
-    body_command(name, list)
 }
 
-// `finish`, or `finish R`.
-fn finish_line(line: &[u8], end: usize, list: &mut [u32]) -> Command {
-    let Count::Of(n) = read_numbers(line, end, list) else {
-        return Command::Bad;
-    };
-    if n == 0 {
-        return Command::Finish { room: ROOM };
+fn unjoint<'a>(mut words: Split<'_, char>) -> Result<Command<'a>, BadLine> {
+    let key = read_key(&mut words)?;
+    match words.next() {
+        Some(_) => Err(BadLine),
+        None => Ok(Command::Unjoint(key)),
     }
-    if n != 1 {
-        return Command::Bad;
-    }
-    let room = lesson_cells::word(list, 0);
-    if room > ROOM {
-        return Command::Bad;
-    }
-    Command::Finish { room }
 }
 
-fn joint_line(line: &[u8], at: usize, list: &mut [u32]) -> Command {
-    let Key::Is(key, own, n) = read_key(line, at, list) else {
-        return Command::Bad;
-    };
-    if own == 2 {
-        if n == 6 {
-            return Command::Joint(key, handle(list, 2, 3), handle(list, 4, 5));
-        }
-        return Command::Bad;
+// `M N S G .. S G`.
+fn chain<'a>(mut words: Split<'_, char>, list: &'a mut [u32]) -> Result<Command<'a>, BadLine> {
+    let multibody = read_wide(words.next())?;
+    let count = read_small(words.next())?;
+    let handles = read_numbers(words, list)?;
+    if handles.len() != 2 * count as usize {
+        return Err(BadLine);
     }
-    if n == 5 {
-        return Command::Joint(key, handle(list, 1, 2), handle(list, 3, 4));
-    }
-    Command::Bad
+    Ok(Command::Chain { multibody, handles })
 }
 
-fn unjoint_line(line: &[u8], at: usize, list: &mut [u32]) -> Command {
-    let Key::Is(key, own, n) = read_key(line, at, list) else {
-        return Command::Bad;
-    };
-    if n != own {
-        return Command::Bad;
-    }
-    Command::Unjoint(key)
-}
-
-// `chain M N S G .. S G`.
-fn chain_line(line: &[u8], at: usize, list: &mut [u32]) -> Command {
-    let Wide::Number(multibody, behind) = read_wide(line, at) else {
-        return Command::Bad;
-    };
-    let Small::Number(handles, end) = read_small(line, behind) else {
-        return Command::Bad;
-    };
-    let Count::Of(n) = read_numbers(line, end, list) else {
-        return Command::Bad;
-    };
-    if n != 2 * lesson_cells::wide(handles) {
-        return Command::Bad;
-    }
-    Command::Chain { multibody, handles }
+fn handle(slot: u32, generation: u32) -> Handle {
+    Handle::new(Slot(slot), generation)
 }

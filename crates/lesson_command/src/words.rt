@@ -1,20 +1,27 @@
-// The words of a line.
-ghost use Rattle.std.specs.Prelude.{◌≡◌, ℕ, ◌<◌, ◌≤◌, length, get_or};
+// The words of a line as numbers. One blank stands between two words.
+use crate::BadLine;
+use lesson_text::digits::value_of;
+use std::str::Split;
 
-// Where the word that begins at `from` ends: at the next blank, or with the line.
-pub fn word_end(line: &[u8], from: usize) -> usize
-    requires { from ≤ length line.now }
-    ensures in_bounds { (from ≤ result) × (result ≤ length line.now) }
-    ensures passes_no_blank { (k : ℕ) → k < result → from ≤ k → get_or line.now k 0 ≡ 32 → ⊥ }
-    ensures stops_at_blank { result < length line.now → get_or line.now result 0 ≡ 32 }
-{
-    let mut i = from;
-    // One turn for each byte of the line at most.
-    while i < line.len() {
-        if line[i] == b' ' {
-            return i;
-        }
-        i += 1;
+// A number of 64 bits.
+pub fn read_wide(word: Option<&str>) -> Result<u64, BadLine> {
+    value_of(word.ok_or(BadLine)?.as_bytes()).ok_or(BadLine)
+}
+
+// A number of 32 bits.
+pub fn read_small(word: Option<&str>) -> Result<u32, BadLine> {
+    u32::try_from(read_wide(word)?).map_err(|_| BadLine)
+}
+
+// The numbers of 32 bits that are left in the line, put into `list`.
+pub fn read_numbers<'a>(words: Split<'_, char>, list: &'a mut [u32]) -> Result<&'a [u32], BadLine> {
+    // Counted beside the list, whose words are lent: no heap, and the numbers that were read are its front.
+    let mut count = 0;
+    // One turn for each word that is left; each fills a word of the list.
+    for word in words {
+        let place = list.get_mut(count).ok_or(BadLine)?;
+        *place = read_small(Some(word))?;
+        count += 1;
     }
-    i
+    Ok(&list[..count])
 }

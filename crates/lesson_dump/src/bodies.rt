@@ -1,77 +1,46 @@
 // The bodies as text.
 ghost use Rattle.std.specs.Prelude.{◌≤◌};
 
-use crate::layout;
+use crate::{State, layout};
 use def_kinds::NONE;
-use lesson_cells::{cell, least, word};
+use std::fmt;
+use std::fmt::Write;
 
-fn slots_used(t: &[u32]) -> u32
-    ensures { result ≤ 4096 }
-{
-    least(word(t, layout::SLOTS_USED), layout::SLOTS)
-}
-
-pub fn bodies(rt: &(impl Print + Eprint), t: &[u32], out: &mut [u8], used: usize) -> usize {
-    let n = slots_used(t);
-    let mut used = used;
-    let mut s: u32 = 0;
-    // One turn for each slot in use.
-    while s < n {
-        used = body(rt, t, out, used, s);
-        s += 1;
+impl State<'_> {
+    fn slots_used(self) -> u32
+        ensures { result ≤ 4096 }
+    {
+        self.word(layout::SLOTS_USED).min(layout::SLOTS)
     }
-    used
-}
 
-// A slot's body, if it is live.
-fn body(rt: &(impl Print + Eprint), t: &[u32], out: &mut [u8], used: usize, s: u32) -> usize {
-    let generation = cell(t, layout::BODIES, 5, s, 0);
-    if generation == NONE {
-        return used;
+    pub(crate) fn bodies(self, f: &mut impl Write) -> fmt::Result {
+        // One turn for each slot in use.
+        for s in 0..self.slots_used() {
+            self.body(s, f)?;
+        }
+        Ok(())
     }
-    let used = lesson_text::labelled(rt, out, used, b"body ", s);
-    let used = lesson_text::labelled(rt, out, used, b" ", generation);
-    let used = flags(rt, t, out, used, s);
-    member(rt, t, out, used, s)
-}
 
-fn flags(rt: &(impl Print + Eprint), t: &[u32], out: &mut [u8], used: usize, s: u32) -> usize {
-    let used = lesson_text::labelled(rt, out, used, b" ", cell(t, layout::BODIES, 5, s, 2));
-    let used = lesson_text::labelled(rt, out, used, b" ", cell(t, layout::BODIES, 5, s, 3));
-    lesson_text::labelled(rt, out, used, b" ", cell(t, layout::BODIES, 5, s, 4))
-}
-
-// The end of a body's line.
-fn member(rt: &(impl Print + Eprint), t: &[u32], out: &mut [u8], used: usize, s: u32) -> usize {
-    let members = layout::MEMBERS;
-    let base = members.elements;
-    let used = lesson_text::labelled(rt, out, used, b" island ", cell(t, base, 4, s, 0));
-    lesson_text::line(rt, out, used, b" place ", cell(t, base, 4, s, 1) as u64)
-}
-
-pub fn lowest(rt: &(impl Print + Eprint), t: &[u32], out: &mut [u8], used: usize) -> usize {
-    let n = slots_used(t);
-    let mut used = lesson_text::bytes(rt, out, used, b"lowest");
-    let mut s: u32 = 0;
-    // One turn for each slot in use.
-    while s < n {
-        used = lowest_item(rt, t, out, used, s);
-        s += 1;
+    // A slot's body, if it is live.
+    fn body(self, s: u32, f: &mut impl Write) -> fmt::Result {
+        let [generation, _lowest, fixed, enabled, sleeping] = layout::BODIES.row(self.0, s);
+        if generation == NONE {
+            return Ok(());
+        }
+        let [island, place, ..] = layout::MEMBERS.elements.row(self.0, s);
+        write!(f, "body {s} {generation} {fixed} {enabled} {sleeping}")?;
+        writeln!(f, " island {island} place {place}")
     }
-    lesson_text::byte(rt, out, used, b'\n')
-}
 
-fn lowest_item(
-    rt: &(impl Print + Eprint),
-    t: &[u32],
-    out: &mut [u8],
-    used: usize,
-    s: u32,
-) -> usize {
-    let generation = cell(t, layout::BODIES, 5, s, 1);
-    if generation == 0 {
-        return used;
+    pub(crate) fn lowest(self, f: &mut impl Write) -> fmt::Result {
+        write!(f, "lowest")?;
+        // One turn for each slot in use.
+        for s in 0..self.slots_used() {
+            let [_generation, lowest, ..] = layout::BODIES.row(self.0, s);
+            if lowest != 0 {
+                write!(f, " {s}:{lowest}")?;
+            }
+        }
+        writeln!(f)
     }
-    let used = lesson_text::labelled(rt, out, used, b" ", s);
-    lesson_text::part(rt, out, used, generation)
 }

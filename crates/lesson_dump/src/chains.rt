@@ -1,36 +1,57 @@
 // The lists of a table of chains. Each walk ends by the list's count and by the table's capacity.
 ghost use Rattle.std.specs.Prelude.{◌≤◌};
+ghost use Rattle.std.specs.Iterator.{at_most};
 
-use crate::layout::Chains;
-use lesson_cells::{cell, least};
+use crate::State;
+use crate::layout::{Chains, Elements};
 
-// How many elements a list has; never more than there are.
-pub fn count(t: &[u32], chains: Chains, list: u32) -> u32
-    ensures { result ≤ chains.capacity }
-{
-    least(cell(t, chains.ends, 2, list, 0), chains.capacity)
+// The elements of a list in order, from `next` on, of which `left` are left.
+#[derive(Clone, Copy)]
+pub struct Chain<'a> {
+    t: &'a [u32],
+    elements: Elements,
+    next: u32,
+    left: u32,
 }
 
-fn last(t: &[u32], chains: Chains, list: u32) -> u32 {
-    cell(t, chains.ends, 2, list, 1)
-}
-
-fn before(t: &[u32], chains: Chains, e: u32) -> u32 {
-    cell(t, chains.elements, 4, e, 2)
-}
-
-pub fn after(t: &[u32], chains: Chains, e: u32) -> u32 {
-    cell(t, chains.elements, 4, e, 3)
-}
-
-// The first element of a list that has one.
-pub fn first(t: &[u32], chains: Chains, list: u32) -> u32 {
-    let mut e = last(t, chains, list);
-    let mut left = count(t, chains, list);
-    // One turn for each element but one: fewer than the capacity.
-    while left > 1 {
-        e = before(t, chains, e);
-        left -= 1;
+impl<'a> State<'a> {
+    // How many elements a list has; never more than there are.
+    pub(crate) fn count(self, chains: Chains, list: u32) -> u32
+        ensures { result ≤ chains.capacity }
+    {
+        let [count, _last] = chains.ends.row(self.0, list);
+        count.min(chains.capacity)
     }
-    e
+
+    // A list, from its first element on. To find that, it goes back from its last.
+    pub(crate) fn chain(self, chains: Chains, list: u32) -> Chain<'a> {
+        let elements = chains.elements;
+        let [_count, mut next] = chains.ends.row(self.0, list);
+        let left = self.count(chains, list);
+        // One turn for each element but one: fewer than the capacity.
+        for _ in 1..left {
+            let [_list, _place, before, _after] = elements.row(self.0, next);
+            next = before;
+        }
+        Chain {
+            t: self.0,
+            elements,
+            next,
+            left,
+        }
+    }
+}
+
+impl Iterator for Chain<'_> {
+    type Item = u32;
+
+    ghost remaining = { λ chain. at_most chain.left };
+
+    fn next(&mut self) -> Option<u32> {
+        self.left = self.left.checked_sub(1)?;
+        let e = self.next;
+        let [_list, _place, _before, after] = self.elements.row(self.t, e);
+        self.next = after;
+        Some(e)
+    }
 }

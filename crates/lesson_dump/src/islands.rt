@@ -1,71 +1,71 @@
 // The islands as text.
-ghost use Rattle.std.specs.Prelude.{◌≤◌};
+ghost use Rattle.std.specs.Prelude.{◌≤◌, ◌≡◌, ◌+◌, ◌*◌};
 
-use crate::chains::count;
-use crate::items::{Kind, items};
-use crate::layout;
-use lesson_cells::{cell, least, word};
+use crate::{State, layout};
+use std::fmt;
+use std::fmt::Write;
 
-// How many island numbers there are to look at.
-fn islands_used(t: &[u32]) -> u32
-    ensures { result ≤ 4096 }
-{
-    least(word(t, layout::ISLANDS_USED), layout::ISLANDS)
-}
+impl State<'_> {
+    // How many island numbers there are to look at.
+    fn islands_used(self) -> u32
+        ensures { result ≤ 4096 }
+    {
+        self.word(layout::ISLANDS_USED).min(layout::ISLANDS)
+    }
 
-fn is_live(t: &[u32], island: u32) -> bool {
-    count(t, layout::MEMBERS, island) != 0
-}
+    fn is_live(self, island: u32) -> bool {
+        self.count(layout::MEMBERS, island) != 0
+    }
 
-fn live_islands(t: &[u32]) -> u32 {
-    let m = islands_used(t);
-    let mut live: u32 = 0;
-    let mut i: u32 = 0;
-    // One turn for each island number in use.
-    while i < m {
-        if is_live(t, i) {
-            live += 1;
+    pub(crate) fn islands(self, f: &mut impl Write) -> fmt::Result {
+        // One turn for each island number in use.
+        let live = (0..self.islands_used())
+            .filter(|&island| self.is_live(island))
+            .count();
+        writeln!(f, "islands {live}")?;
+        // One turn for each island number in use.
+        for island in 0..self.islands_used() {
+            if self.is_live(island) {
+                self.island(island, f)?;
+            }
         }
-        i += 1;
+        Ok(())
     }
-    live
+
+    // An island and its three lists.
+    fn island(self, island: u32, f: &mut impl Write) -> fmt::Result {
+        let [count, denied, sleeping] = layout::ROWS.row(self.0, island);
+        writeln!(
+            f,
+            "island {island} count {count} denied {denied} sleeping {sleeping}"
+        )?;
+        self.list(f, "  bodies", layout::MEMBERS, island, |f, s| {
+            let [generation, ..] = layout::BODIES.row(self.0, s);
+            write!(f, " {s}:{generation}")
+        })?;
+        self.list(f, "  contacts", layout::CONTACTS, island, |f, e| {
+            let [s1, g1, s2, g2] = layout::TOUCHES.row(self.0, e);
+            write!(f, " {e}:{s1}:{g1}:{s2}:{g2}")
+        })?;
+        self.list(f, "  joints", layout::LINKED, island, |f, place| {
+            self.joint(place, f)
+        })
+    }
+
+    fn joint(self, place: u32, f: &mut impl Write) -> fmt::Result {
+        let [kind, a, b, c, s1, g1, s2, g2] = layout::KEYS.row(self.0, place);
+        if kind == 0 {
+            write!(f, " i:{a}:{b}")?;
+        } else {
+            write!(f, " c:{}:{c}", joined(a, b))?;
+        }
+        write!(f, ":{s1}:{g1}:{s2}:{g2}")
+    }
 }
 
-pub fn islands(rt: &(impl Print + Eprint), t: &[u32], out: &mut [u8], used: usize) -> usize {
-    let m = islands_used(t);
-    let mut used = lesson_text::line(rt, out, used, b"islands ", live_islands(t) as u64);
-    let mut i: u32 = 0;
-    // One turn for each island number in use.
-    while i < m {
-        used = island(rt, t, out, used, i);
-        i += 1;
-    }
-    used
-}
-
-// An island and its three lists, if it is live.
-fn island(rt: &(impl Print + Eprint), t: &[u32], out: &mut [u8], used: usize, i: u32) -> usize {
-    if !is_live(t, i) {
-        return used;
-    }
-    let used = row(rt, t, out, used, i);
-    let used = lesson_text::bytes(rt, out, used, b"  bodies");
-    let used = items(rt, t, out, used, layout::MEMBERS, i, Kind::Body);
-    let used = lesson_text::bytes(rt, out, used, b"  contacts");
-    let used = items(rt, t, out, used, layout::CONTACTS, i, Kind::Contact);
-    let used = lesson_text::bytes(rt, out, used, b"  joints");
-    items(rt, t, out, used, layout::LINKED, i, Kind::Joint)
-}
-
-fn row(rt: &(impl Print + Eprint), t: &[u32], out: &mut [u8], used: usize, i: u32) -> usize {
-    let used = lesson_text::labelled(rt, out, used, b"island ", i);
-    let used = lesson_text::labelled(rt, out, used, b" count ", cell(t, layout::ROWS, 3, i, 0));
-    let used = lesson_text::labelled(rt, out, used, b" denied ", cell(t, layout::ROWS, 3, i, 1));
-    lesson_text::line(
-        rt,
-        out,
-        used,
-        b" sleeping ",
-        cell(t, layout::ROWS, 3, i, 2) as u64,
-    )
+// The number whose upper half is `a` and whose lower half is `b`.
+fn joined(a: u32, b: u32) -> u64
+    ensures { result ≡ a * 4294967296 + b }
+{
+    u64::from(a) * 4294967296 + u64::from(b)
 }

@@ -5,68 +5,86 @@
 mod bodies;
 mod chains;
 mod islands;
-mod items;
 pub mod layout;
 
-use items::{Kind, items};
-use lesson_cells::{cell, least, word};
+use layout::Chains;
+use lesson_cells::word;
+use std::fmt;
+use std::fmt::{Display, Formatter, Write};
 
-pub fn dump(rt: &(impl Print + Eprint), t: &[u32], out: &mut [u8], used: usize) -> usize {
-    let used = islands::islands(rt, t, out, used);
-    let used = free(rt, t, out, used);
-    let used = links(rt, t, out, used);
-    let used = times(rt, t, out, used);
-    let used = bodies::bodies(rt, t, out, used);
-    let used = bodies::lowest(rt, t, out, used);
-    lesson_text::bytes(rt, out, used, b"end\n")
-}
+// The words of the state. As text, they are a dump.
+#[derive(Clone, Copy)]
+pub struct State<'a>(pub &'a [u32]);
 
-fn free(rt: &(impl Print + Eprint), t: &[u32], out: &mut [u8], used: usize) -> usize {
-    let used = lesson_text::bytes(rt, out, used, b"free");
-    items(rt, t, out, used, layout::FREED, 0, Kind::Free)
-}
-
-fn links(rt: &(impl Print + Eprint), t: &[u32], out: &mut [u8], used: usize) -> usize {
-    let used = lesson_text::line(rt, out, used, b"tracked ", word(t, layout::TRACKED) as u64);
-    journal(rt, t, out, used)
-}
-
-fn journal(rt: &(impl Print + Eprint), t: &[u32], out: &mut [u8], used: usize) -> usize {
-    let n = least(word(t, layout::JOURNAL_USED), layout::JOURNAL);
-    let mut used = lesson_text::bytes(rt, out, used, b"journal");
-    let mut j: u32 = 0;
-    // One turn for each entry, of which there are at most as many as there is room for.
-    while j < n {
-        used = entry(rt, t, out, used, j);
-        j += 1;
+impl Display for State<'_> {
+    fn fmt<W: Write>(&self, f: &mut Formatter<W>) -> fmt::Result {
+        self.islands(f)?;
+        self.free(f)?;
+        writeln!(f, "tracked {}", self.word(layout::TRACKED))?;
+        self.journal(f)?;
+        self.pending(f)?;
+        writeln!(f, "stamp {}", self.word(layout::STAMP))?;
+        self.scan(f)?;
+        self.bodies(f)?;
+        self.lowest(f)?;
+        writeln!(f, "end")
     }
-    lesson_text::byte(rt, out, used, b'\n')
 }
 
-fn entry(rt: &(impl Print + Eprint), t: &[u32], out: &mut [u8], used: usize, j: u32) -> usize {
-    let used = lesson_text::labelled(rt, out, used, b" ", cell(t, layout::ENTRIES, 4, j, 0));
-    let used = lesson_text::part(rt, out, used, cell(t, layout::ENTRIES, 4, j, 1));
-    let used = lesson_text::part(rt, out, used, cell(t, layout::ENTRIES, 4, j, 2));
-    lesson_text::part(rt, out, used, cell(t, layout::ENTRIES, 4, j, 3))
-}
-
-fn times(rt: &(impl Print + Eprint), t: &[u32], out: &mut [u8], used: usize) -> usize {
-    let used = pending(rt, t, out, used);
-    let used = lesson_text::line(rt, out, used, b"stamp ", word(t, layout::STAMP) as u64);
-    scan(rt, t, out, used)
-}
-
-fn pending(rt: &(impl Print + Eprint), t: &[u32], out: &mut [u8], used: usize) -> usize {
-    if word(t, layout::IS_PENDING) == 0 {
-        return lesson_text::bytes(rt, out, used, b"pending none\n");
+impl State<'_> {
+    fn word(self, i: usize) -> u32 {
+        word(self.0, i)
     }
-    lesson_text::line(rt, out, used, b"pending ", word(t, layout::PENDING) as u64)
-}
 
-fn scan(rt: &(impl Print + Eprint), t: &[u32], out: &mut [u8], used: usize) -> usize {
-    if word(t, layout::IS_OPEN) == 0 {
-        return lesson_text::bytes(rt, out, used, b"scan closed\n");
+    // A line: its label, and each element of a list as `item` writes it.
+    fn list<W: Write, F: Fn(&mut W, u32) -> fmt::Result>(
+        self,
+        f: &mut W,
+        label: &str,
+        chains: Chains,
+        list: u32,
+        item: F,
+    ) -> fmt::Result
+        requires { F.IsAlwaysCallable item }
+    {
+        write!(f, "{label}")?;
+        // One turn for each element: at most as many as the capacity.
+        for e in self.chain(chains, list) {
+            item(f, e)?;
+        }
+        writeln!(f)
     }
-    let used = lesson_text::bytes(rt, out, used, b"scan open");
-    items(rt, t, out, used, layout::SEEN, 0, Kind::Seen)
+
+    fn free(self, f: &mut impl Write) -> fmt::Result {
+        self.list(f, "free", layout::FREED, 0, |f, island| {
+            write!(f, " {island}")
+        })
+    }
+
+    fn journal(self, f: &mut impl Write) -> fmt::Result {
+        write!(f, "journal")?;
+        // One turn for each entry, of which there are at most as many as there is room for.
+        for entry in 0..self.word(layout::JOURNAL_USED).min(layout::JOURNAL) {
+            let [s1, g1, s2, g2] = layout::ENTRIES.row(self.0, entry);
+            write!(f, " {s1}:{g1}:{s2}:{g2}")?;
+        }
+        writeln!(f)
+    }
+
+    fn pending(self, f: &mut impl Write) -> fmt::Result {
+        if self.word(layout::IS_PENDING) == 0 {
+            return writeln!(f, "pending none");
+        }
+        writeln!(f, "pending {}", self.word(layout::PENDING))
+    }
+
+    fn scan(self, f: &mut impl Write) -> fmt::Result {
+        if self.word(layout::IS_OPEN) == 0 {
+            return writeln!(f, "scan closed");
+        }
+        self.list(f, "scan open", layout::SEEN, 0, |f, island| {
+            let [fit] = layout::FIT.row(self.0, island);
+            write!(f, " {island}:{fit}")
+        })
+    }
 }

@@ -1,171 +1,98 @@
 // One line of a script: the call that it names, and the line that answers it.
-use def_kinds::{Answer, Island, IslandAnswer};
-use lesson_cells::word;
-use lesson_command::Command;
-use lesson_dump::dump;
+use crate::read::LONGEST_LINE;
+use def_kinds::{Island, NONE, Refusal, number};
+use lesson_command::{BadLine, Command, ROOM, parse};
+use lesson_dump::State;
+use std::fmt;
+use std::fmt::Write;
 
-// What a line is answered by.
+// The words of the state, and room for the numbers of a line.
 #[derive(Drop)]
-pub enum Reply {
-    // Nothing, for an empty line or a comment.
-    Silent,
-    BadLine,
-    Answer(Answer),
-    Island(IslandAnswer),
-    // May this island bid?
-    Bid(Answer, bool),
-    // As many numbers, the first of the lent list.
-    List(Answer, u32),
-    Dump,
+pub struct Yard<'a> {
+    pub t: &'a mut [u32],
+    pub list: &'a mut [u32],
 }
 
-// Answers the line `line`, which is the `number`th. `list` takes the line's numbers.
-pub fn answer_line(
-    rt: &(impl Print + Eprint),
-    t: &mut [u32],
-    list: &mut [u32],
-    line: &[u8],
-    number: u64,
-    out: &mut [u8],
-    used: usize,
-) -> usize {
-    let command = lesson_command::parse(line, list);
-    let reply = call(t, list, command);
-    write_reply(rt, t, list, out, used, number, reply)
-}
-
-// Makes the call that a line asks for.
-fn call(t: &mut [u32], list: &mut [u32], command: Command) -> Reply {
-    match command {
-        Command::Blank => Reply::Silent,
-        Command::Bad => Reply::BadLine,
-        Command::Reset => Reply::Answer(host_calls::reset(t)),
-        Command::Put(h, f) => Reply::Answer(host_calls::put(t, h, f.fixed, f.enabled, f.sleeping)),
-        Command::Retire(h) => Reply::Answer(host_calls::retire(t, h)),
-        Command::Flags(h, f) => Reply::Answer(host_calls::flags(
-            t, h, f.fixed, f.enabled, f.sleeping,
-        )),
-        Command::Island(h) => Reply::Island(host_calls::island(t, h)),
-        Command::Ensure(h) => Reply::Answer(host_calls::ensure(t, h)),
-        Command::Remove(h) => Reply::Answer(host_calls::remove(t, h)),
-        Command::Contact(e, h1, h2) => Reply::Answer(host_calls::contact(t, e, h1, h2)),
-        Command::Uncontact(e) => Reply::Answer(host_calls::uncontact(t, e)),
-        Command::Renumber { removed, last } => Reply::Answer(host_calls::renumber(
-            t, removed, last,
-        )),
-        Command::Joint(k, h1, h2) => Reply::Answer(host_calls::joint(t, k, h1, h2)),
-        Command::Unjoint(k) => Reply::Answer(host_calls::unjoint(t, k)),
-        Command::Chain { multibody, handles } => refresh(t, list, multibody, handles),
-        Command::Resolve => Reply::Answer(host_calls::resolve(t)),
-        Command::Split(i) => Reply::Answer(host_calls::split(t, i)),
-        Command::MayBid(i) => may_bid(t, i),
-        Command::Schedule(i) => Reply::Answer(host_calls::schedule(t, i)),
-        Command::Run => Reply::Answer(host_calls::run(t)),
-        Command::Begin => Reply::Answer(host_calls::begin(t)),
-        Command::Observe { island, eligible } => Reply::Answer(host_calls::observe(
-            t, island, eligible,
-        )),
-        Command::Finish { room } => finish_scan(t, list, room),
-        Command::Sleep(i) => Reply::Answer(host_calls::sleep(t, i)),
-        Command::Wake(i) => Reply::Answer(host_calls::wake(t, i)),
-        Command::Dump => Reply::Dump,
+impl Yard<'_> {
+    // Answers the line `line`, which is the `number`th.
+    pub fn answer_line(&mut self, line: &[u8], number: u64, out: &mut impl Write) -> fmt::Result {
+        if line.len() > LONGEST_LINE {
+            return write_bad_line(number, out);
+        }
+        match parse(line, self.list) {
+            Ok(Some(command)) => answer(self.t, command, out),
+            Ok(None) => Ok(()),
+            Err(BadLine) => write_bad_line(number, out),
+        }
     }
 }
 
-// The handles of the line are the first words of the list.
-fn refresh(t: &mut [u32], list: &[u32], multibody: u64, handles: u32) -> Reply {
-    let n = 2 * (handles as usize);
-    if n > list.len() {
-        return Reply::BadLine;
-    }
-    Reply::Answer(host_calls::chain(t, multibody, &list[0..n]))
+fn write_bad_line(number: u64, out: &mut impl Write) -> fmt::Result {
+    writeln!(out, "bad line {number}")
 }
 
-fn may_bid(t: &[u32], island: Island) -> Reply {
-    let b = host_calls::may_bid(t, island);
-    let a = b.answer;
-    let yes = b.yes;
-    Reply::Bid(a, yes)
+// Makes the call that a line asks for, and writes its answer.
+fn answer(t: &mut [u32], command: Command<'_>, out: &mut impl Write) -> fmt::Result {
+    let answer = match command {
+        Command::Reset => host_calls::reset(t),
+        Command::Put(h, flags) => host_calls::put(t, h, flags),
+        Command::Retire(h) => host_calls::retire(t, h),
+        Command::Flags(h, flags) => host_calls::flags(t, h, flags),
+        Command::Island(h) => return write_island(host_calls::island(t, h), out),
+        Command::Ensure(h) => host_calls::ensure(t, h),
+        Command::Remove(h) => host_calls::remove(t, h),
+        Command::Contact(e, first, second) => host_calls::contact(t, e, first, second),
+        Command::Uncontact(e) => host_calls::uncontact(t, e),
+        Command::Renumber { removed, last } => host_calls::renumber(t, removed, last),
+        Command::Joint(key, first, second) => host_calls::joint(t, key, first, second),
+        Command::Unjoint(key) => host_calls::unjoint(t, key),
+        Command::Chain { multibody, handles } => host_calls::chain(t, multibody, handles),
+        Command::Resolve => host_calls::resolve(t),
+        Command::Split(island) => host_calls::split(t, island),
+        Command::MayBid(island) => return write_bid(host_calls::may_bid(t, island), out),
+        Command::Schedule(island) => host_calls::schedule(t, island),
+        Command::Run => host_calls::run(t),
+        Command::Begin => host_calls::begin(t),
+        Command::Observe { island, eligible } => host_calls::observe(t, island, eligible),
+        Command::Finish { room } => return finish(t, room, out),
+        Command::Sleep(island) => host_calls::sleep(t, island),
+        Command::Wake(island) => host_calls::wake(t, island),
+        Command::Dump => return write!(out, "{}", State(t)),
+    };
+    writeln!(out, "{}", number(answer))
 }
 
-// The output that is lent is the front of the list.
-fn finish_scan(t: &mut [u32], list: &mut [u32], room: u32) -> Reply {
-    let n = room as usize;
-    if n > list.len() {
-        return Reply::BadLine;
-    }
-    let listed = host_calls::finish(t, &mut list[..n]);
-    let a = listed.answer;
-    let length = listed.length;
-    Reply::List(a, length)
-}
-
-fn write_reply(
-    rt: &(impl Print + Eprint),
-    t: &[u32],
-    list: &[u32],
-    out: &mut [u8],
-    used: usize,
-    number: u64,
-    reply: Reply,
-) -> usize {
-    match reply {
-        Reply::Silent => used,
-        Reply::BadLine => write_bad_line(rt, out, used, number),
-        Reply::Answer(a) => lesson_text::line(rt, out, used, b"", a.number() as u64),
-        Reply::Island(a) => write_island(rt, out, used, a),
-        Reply::Bid(a, bids) => write_bid(rt, out, used, a, bids),
-        Reply::List(a, n) => write_list(rt, list, out, used, a, n),
-        Reply::Dump => dump(rt, t, out, used),
+// The number of a question's answer, which is 0 where it is not refused, and the body's island or NONE.
+fn write_island(asked: Result<Option<Island>, Refusal>, out: &mut impl Write) -> fmt::Result {
+    match asked {
+        Ok(Some(island)) => writeln!(out, "0 {}", island.0),
+        Ok(None) => writeln!(out, "0 {NONE}"),
+        Err(refusal) => writeln!(out, "{} {NONE}", u32::from(refusal)),
     }
 }
 
-pub fn write_bad_line(
-    rt: &(impl Print + Eprint),
-    out: &mut [u8],
-    used: usize,
-    number: u64,
-) -> usize {
-    lesson_text::line(rt, out, used, b"bad line ", number)
-}
-
-fn write_island(rt: &(impl Print + Eprint), out: &mut [u8], used: usize, a: IslandAnswer) -> usize {
-    let answer = a.answer;
-    let island = a.island;
-    let used = lesson_text::small(rt, out, used, answer.number());
-    lesson_text::line(rt, out, used, b" ", island.0 as u64)
-}
-
-fn write_bid(
-    rt: &(impl Print + Eprint),
-    out: &mut [u8],
-    used: usize,
-    a: Answer,
-    bids: bool,
-) -> usize {
-    let used = lesson_text::small(rt, out, used, a.number());
-    if bids {
-        return lesson_text::bytes(rt, out, used, b" 1\n");
+fn write_bid(asked: Result<bool, Refusal>, out: &mut impl Write) -> fmt::Result {
+    match asked {
+        Ok(yes) => writeln!(out, "0 {}", u8::from(yes)),
+        Err(refusal) => writeln!(out, "{} 0", u32::from(refusal)),
     }
-    lesson_text::bytes(rt, out, used, b" 0\n")
 }
 
 // The answer, the list's length, and the list.
-fn write_list(
-    rt: &(impl Print + Eprint),
-    list: &[u32],
-    out: &mut [u8],
-    used: usize,
-    a: Answer,
-    n: u32,
-) -> usize {
-    let used = lesson_text::small(rt, out, used, a.number());
-    let mut used = lesson_text::labelled(rt, out, used, b" ", n);
-    let mut i: u32 = 0;
-    // One turn for each number of the list.
-    while i < n {
-        used = lesson_text::labelled(rt, out, used, b" ", word(list, i as usize));
-        i += 1;
+fn finish(t: &mut [u32], room: u32, out: &mut impl Write) -> fmt::Result {
+    let mut list = [0; ROOM as usize];
+    let n = (room as usize).min(list.len());
+    match host_calls::finish(t, &mut list[..n]) {
+        Ok(length) => write_list(&list, length, out),
+        Err(refusal) => writeln!(out, "{} 0", u32::from(refusal)),
     }
-    lesson_text::byte(rt, out, used, b'\n')
+}
+
+fn write_list(list: &[u32], length: u32, out: &mut impl Write) -> fmt::Result {
+    write!(out, "0 {length}")?;
+    // One turn for each number of the list.
+    for island in list.iter().take(length as usize) {
+        write!(out, " {island}")?;
+    }
+    writeln!(out)
 }

@@ -1,4 +1,3 @@
 -- Laws that more than one proof cites.
 pub mod Decimal
-pub mod Laws
 pub mod Mark

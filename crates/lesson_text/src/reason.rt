@@ -23,7 +23,7 @@ pub fn reason(error: io::Error, room: &mut [u8]) -> &str
     }
 }
 
-// Writes all that std says of `error`, as far as it fits, and answers how many bytes that is.
+// Writes all that std says of `error`, as far as it fits, and answers how many bytes that is: no heap, so the room is lent.
 fn write_reason(error: io::Error, room: &mut [u8]) -> usize
     ensures within { result ≤ length room.new }
     ensures length { length room.new ≡ length room.old }

@@ -1,9 +1,9 @@
 -- The goals of the places, one after the other.
 use mathlib.Core.Path.{◌≡◌, refl, sym, ◌∙◌, ap, subst}
-use mathlib.Core.Logic.{◌⊎◌, inl, inr, ◌≢◌, ⊎_elim}
+use mathlib.Core.Logic.{◌≢◌}
 use mathlib.Core.Bool.{Bool, true, false}
 use mathlib.Core.List.{List}
-use Prim.Native.Nat.{ℕ, zero, suc, ◌+◌, ◌-◌, ◌*◌, ◌≤◌, ◌<◌}
+use Prim.Native.Nat.{ℕ, suc, ◌+◌, ◌≤◌, ◌<◌}
 use native.Mathlib.Omega.{arith}
 use native.Mathlib.Numerals.{add-one}
 use lib.ListN.{length, get_or, set, length-set}
@@ -19,15 +19,13 @@ use Rattle.def_state.specs.World.{World, island_at}
 use Rattle.def_state.specs.Membership.{new_number}
 use Rattle.def_state.specs.Connected.{tally}
 use Rattle.def_state.specs.Split.{leads, new_islands}
-use Rattle.table_meaning.specs.Layout.{Tables, tables, Extents, extents, members_in, freed_in}
+use Rattle.table_meaning.specs.Layout.{Tables, tables, extents, members_in, freed_in}
 use Rattle.table_meaning.specs.Decode.{world_of, flag}
-use Rattle.table_meaning.specs.Sound.{Sound}
 use Rattle.table_meaning.proofs.Unique.{islands-is}
-use Rattle.core_laws.specs.Lives.{Lives}
-use Rattle.core_laws.specs.Loose.{OpenAt, Loosely, Moves, BodiesStay}
+use Rattle.core_laws.specs.Loose.{OpenAt, BodiesStay}
 use Rattle.core_laws.proofs.Loose.{sound-loose, peopled, lives-open, moves-none, moves-as, moves-then}
 use Rattle.split_move.specs.Shift.{reserved, NumberTaken}
-use Rattle.split_island.specs.Assign.{Labels, goal_at, AssignReady, GoalBelow, Assigning}
+use Rattle.split_island.specs.Assign.{goal_at, AssignReady, Assigning}
 use Rattle.split_island.proofs.New.{one_more, reserved-same, leads-yes, leads-kept, leads-no, tally-yes, tally-no}
 use Rattle.split_island.proofs.Room.{room, taken-has}
 

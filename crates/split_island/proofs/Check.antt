@@ -1,49 +1,35 @@
 -- The island is checked: count 0, denial set; the split is that, after the parts where there are parts.
-use mathlib.Core.Path.{◌≡◌, refl, sym, ◌∙◌, ap}
-use mathlib.Core.Logic.{◌⊎◌, inl, inr, ◌≢◌, ⊎_elim}
-use mathlib.Core.Bool.{true, false, not, ◌&&◌}
-use mathlib.Core.Option.{none as nothing, some}
+use mathlib.Core.Path.{◌≡◌, refl, sym, ap}
+use mathlib.Core.Logic.{⊎_elim}
+use mathlib.Core.Bool.{false}
 use mathlib.Core.List.{List, [], ◌∷◌}
-use Prim.Native.Nat.{ℕ, ◌+◌, ◌-◌, ◌*◌, ◌≤◌, ◌<◌}
+use Prim.Native.Nat.{ℕ, ◌+◌, ◌*◌, ◌≤◌, ◌<◌}
 use native.Mathlib.Omega.{arith}
 use lib.ListN.{length, get_or}
-use lib.Dec.{eqb}
-use borrow.Author.Tests.{eq-eqb, ne_eqb, lt-ltb, le-ltb, le-leb, lt-leb}
-use Rattle.def_kinds.specs.Choice.{pick}
+use borrow.Author.Tests.{le-leb, lt-leb}
 use Rattle.list_in_table.specs.Word.{writes, miss, hit}
 use Rattle.list_in_buffer.specs.Part.{Put}
 use Rattle.def_kinds.specs.declared.Sizes.{Sizes}
-use Rattle.def_kinds.specs.Answers.{Done, Nothing, NoIsland}
-use Rattle.def_state.specs.Plain.{top}
-use Rattle.def_state.specs.World.{Island, World, Step, done, gives, island_at, live}
-use Rattle.def_state.specs.Fields.{split_set, island_set}
+use Rattle.def_kinds.specs.Answers.{Done, NoIsland}
+use Rattle.def_state.specs.World.{Island, done, island_at, live}
+use Rattle.def_state.specs.Fields.{island_set}
 use Rattle.def_state.specs.Connected.{components}
-use Rattle.def_state.specs.Split.{labels_of, denial, checked, split, split_island_now, schedule_split, run_pending_split, denied, split_allowed}
-use Rattle.table_meaning.specs.Layout.{tables, head_at, head_span, rows_at, rows_span, extents}
-use Rattle.table_meaning.specs.Decode.{flag, island_in, world_of}
+use Rattle.def_state.specs.Split.{labels_of, denial, checked, split, split_island_now}
+use Rattle.table_meaning.specs.Layout.{tables, rows_at, rows_span}
+use Rattle.table_meaning.specs.Decode.{flag, world_of}
 use Rattle.table_meaning.specs.Sound.{Sound}
 use Rattle.table_meaning.specs.Does.{Does}
 use Rattle.table_meaning.proofs.Puts.{sized}
-use Rattle.table_meaning.proofs.Frame.{larger-then, kept_then}
+use Rattle.table_meaning.proofs.Frame.{larger-then}
 use Rattle.core_laws.specs.Steps.{Steps}
 use Rattle.core_laws.specs.Lives.{Lives}
 use Rattle.core_laws.proofs.Good.{island-is}
 use Rattle.core_laws.proofs.Then.{refused, does-as, does-then}
 use Rattle.core_laws.proofs.At.{steps-as}
 use Rattle.core_laws.proofs.Isle.{Aside}
-use Rattle.core_laws.proofs.Names.{island-at}
 use Rattle.core_laws.proofs.Row.{row-steps}
-use Rattle.core_laws.proofs.Leave.{pending-put}
 use Rattle.core_live.proofs.Live.{lives-true}
 use Rattle.split_island.specs.Part.{parting, checking, splitting, Parts}
-
-pub denial-most : (s : ℕ) → top - 16 < s → top ≡ denial s
-unfolding denial
-denial-most s h = rw (lt-ltb top (s + 16) (omega arith))
-
-pub denial-some : (s : ℕ) → s ≤ top - 16 → s + 16 ≡ denial s
-unfolding denial
-denial-some s h = rw (le-ltb top (s + 16) (omega arith))
 
 -- ---- checked
 abbrev check_as : ℕ → Island → Island

@@ -3,7 +3,7 @@ use mathlib.Core.Path.{◌≡◌, refl, sym, ◌∙◌, ap}
 use mathlib.Core.Logic.{◌≢◌}
 use mathlib.Core.Bool.{Bool, true, false, not, ◌&&◌}
 use mathlib.Core.List.{List, [], ◌∷◌, ◌++◌}
-use Prim.Native.Nat.{ℕ, zero, suc, ◌+◌, ◌-◌, ◌≤◌, ◌<◌}
+use Prim.Native.Nat.{ℕ, zero, suc, ◌-◌, ◌<◌}
 use native.Mathlib.Omega.{arith}
 use lib.ListN.{length, get_or, set, get_or-append}
 use lib.Seq.{get_or-set_other}
@@ -12,7 +12,7 @@ use borrow.Author.Tests.{eq-eqb, ne_eqb}
 use Rattle.def_kinds.specs.Choice.{pick}
 use Rattle.list_in_table.proofs.Laws.{either}
 use Rattle.def_state.specs.Plain.{top, empty, drop_last}
-use Rattle.def_state.specs.World.{Island, absent_island, World, island_at}
+use Rattle.def_state.specs.World.{absent_island, World, island_at}
 use Rattle.def_state.specs.Fields.{islands_set, free_set, island_set}
 use Rattle.def_state.specs.Membership.{new_number, alloc_island}
 use Rattle.def_state.specs.Connected.{tally, components}

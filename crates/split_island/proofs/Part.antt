@@ -1,33 +1,28 @@
 -- The parts of a split together are the definition's.
 use mathlib.Core.Path.{◌≡◌, refl, sym, ◌∙◌, ap, subst, fun_ext}
-use mathlib.Core.Logic.{◌⊎◌, inl, inr, ◌≢◌, ⊎_elim}
-use mathlib.Core.Bool.{Bool, true, false}
-use mathlib.Core.List.{List, map}
+use mathlib.Core.Logic.{◌≢◌, ⊎_elim}
+use mathlib.Core.Bool.{Bool}
+use mathlib.Core.List.{List}
 use Prim.Native.Nat.{ℕ, zero, suc, ◌+◌, ◌-◌, ◌*◌, ◌≤◌, ◌<◌}
 use native.Mathlib.Omega.{arith}
 use lib.ListN.{length, get_or, length-map}
-use lib.Dec.{eqb, ltb}
 use borrow.Author.Tests.{eq-eqb, ne_eqb, lt-ltb, le-ltb}
-use Rattle.list_in_table.specs.Rules.{none, list_of}
-use Rattle.def_kinds.specs.Choice.{pick}
+use Rattle.list_in_table.specs.Rules.{list_of}
 use Rattle.list_in_table.proofs.Laws.{either}
 use Rattle.list_in_table.proofs.Same.{below}
 use Rattle.list_in_table.proofs.Order.{length-list}
 use Rattle.list_in_table.proofs.Pigeon.{count-le}
 use Rattle.def_kinds.specs.declared.Sizes.{Sizes}
 use Rattle.def_state.specs.Plain.{top}
-use Rattle.def_state.specs.World.{Handle, ContactLink, absent_contact, JointLink, absent_joint, Island, World, done, island_at}
-use Rattle.def_state.specs.Membership.{new_number}
+use Rattle.def_state.specs.World.{Handle, absent_contact, absent_joint, Island, World, island_at}
 use Rattle.def_state.specs.Connected.{label, tally, components, weight, most, first, keep_label}
 use Rattle.def_state.specs.Split.{node_of, links_of, labels_of, leads, new_islands, new_numbers, goal, link_goal, contacts_leave, joints_leave, bodies_leave, parted}
-use Rattle.table_meaning.specs.Layout.{Tables, tables, Extents, extents, members_in, contacts_in, joints_in, freed_in}
-use Rattle.table_meaning.specs.Decode.{world_of, decode, flag, contact_at, joint_at}
+use Rattle.table_meaning.specs.Layout.{Tables, tables, extents, members_in, contacts_in, joints_in}
+use Rattle.table_meaning.specs.Decode.{world_of, flag, contact_at, joint_at}
 use Rattle.table_meaning.specs.Sound.{Sound}
-use Rattle.table_meaning.specs.Rule.{Live}
-use Rattle.core_laws.specs.Steps.{Steps}
 use Rattle.core_laws.specs.Drops.{Stays}
 use Rattle.core_laws.specs.Lives.{Lives}
-use Rattle.core_laws.specs.Loose.{OpenAt, Loosely, Moves, BodiesStay}
+use Rattle.core_laws.specs.Loose.{BodiesStay}
 use Rattle.core_laws.proofs.Loose.{moves-as, moves-then, moved-steps}
 use Rattle.core_laws.proofs.Names.{island-at}
 use Rattle.core_laws.proofs.Stays.{stays_then}
@@ -35,10 +30,10 @@ use Rattle.split_forest.specs.Groups.{Inside}
 use Rattle.split_forest.proofs.Labels.{length_label, label-le, label-own, label-lt}
 use Rattle.split_move.specs.Shift.{node_at}
 use Rattle.split_move.proofs.Node.{node-is, node_stays}
-use Rattle.split_walk.specs.Walk.{goes, Goals, KeepStays, GoalOf, ContactsLeft, JointsLeft, BodiesLeft}
+use Rattle.split_walk.specs.Walk.{goes, Goals, KeepStays, ContactsLeft, JointsLeft, BodiesLeft}
 use Rattle.split_walk.proofs.Back.{stays-bodies, goals-stay}
 use Rattle.split_walk.proofs.Goal.{node-lt, goal-first, goal-second, goal-neither}
-use Rattle.split_island.specs.Assign.{Labels, goal_at, AssignReady, GoalBelow, Assigning}
+use Rattle.split_island.specs.Assign.{Labels, goal_at, AssignReady, Assigning}
 use Rattle.split_island.specs.Part.{parting, PartReady, Parts}
 use Rattle.split_island.proofs.New.{number_at, leads-yes, tally-lt, tally-all}
 

@@ -49,10 +49,3 @@ pub record Splittable (Z : Sizes) (i n : ℕ) (t : List ℕ) : Type 0 where
   pub lives : Lives Z t i
   pub few : Z.slots ≤ 4096
   pub bodies : n ≡ (members_in Z (tables Z t)).count i
-
--- four slices of at least n words
-pub record Scratch (n : ℕ) (parent size first labels : List ℕ) : Type 0 where
-  pub parent_long : n ≤ length parent
-  pub size_long : n ≤ length size
-  pub first_long : n ≤ length first
-  pub labels_long : n ≤ length labels

@@ -9,19 +9,19 @@ ghost use Rattle.table_meaning.specs.Does.{Does};
 ghost use Rattle.core_laws.specs.Steps.{Steps};
 ghost use Rattle.core_laws.specs.Lives.{Lives};
 ghost use Rattle.split_island.specs.Assign.{AssignReady, Assigning};
-ghost use Rattle.split_island.specs.Part.{PartReady, Parts, checking, splitting, SplitReady, Splittable, Scratch};
+ghost use Rattle.split_island.specs.Part.{PartReady, Parts, checking, splitting, SplitReady, Splittable};
 
 use def_kinds::{Answer, Outcome, Refusal, Sizes};
 use table_meaning::{Table, word};
 
-// A denial stops here.
-const MOST: u32 = 4294967295;
-
 // After a split an island may bid again when so many scans have begun.
 const COOLDOWN: u32 = 16;
 
-// So many bodies are few.
+// So many bodies are few: for them, clearing more scratch would take longer than the split.
 const FEW: usize = 256;
+
+// No island has more.
+const MANY: usize = 4096;
 
 // Each place of the island base gets its goal, and each component that leaves its number, in the order of their first bodies.
 pub fn assign_goals(
@@ -36,26 +36,16 @@ pub fn assign_goals(
     requires { AssignReady z base keep asleep labels.now goals.old t.old }
     ensures { Assigning z base keep asleep labels.now t.old t.new goals.new (length labels.now) }
 {
-    let n = labels.len();
-    let mut p: usize = 0;
     // One turn for each body of the island: at most as many as there are slots.
-    while p < n {
-        let label = labels[p] as usize;
-        if label < p {
-            let goal = goals[label];
-            goals[p] = goal;
-            p += 1;
-            continue;
-        }
-        let place = p as u32;
-        if place == keep {
-            goals[p] = base;
-            p += 1;
-            continue;
-        }
-        let i = split_move::take_number(t, z, asleep);
-        goals[p] = i;
-        p += 1;
+    for (p, label) in labels.iter().enumerate() {
+        let label = *label as usize;
+        goals[p] = if label < p {
+            goals[label]
+        } else if p as u32 == keep {
+            base
+        } else {
+            split_move::take_number(t, z, asleep)
+        };
     }
 }
 
@@ -64,7 +54,12 @@ pub fn part_island(t: &mut [u32], z: Sizes, base: u32, keep: u32, labels: &[u32]
     requires { PartReady z base keep labels.now goals.old t.old }
     ensures { Parts z base t.old t.new }
 {
-    let asleep = table_words::get(t, z, Table::Rows, word::ROW * (base as usize) + word::ASLEEP);
+    let asleep = table_words::get(
+        t,
+        z,
+        Table::Rows,
+        word::ROW * (base as usize) + word::ASLEEP,
+    );
     assign_goals(t, z, base, keep, asleep, labels, goals);
     split_walk::contacts_leave(t, z, base, goals);
     split_walk::joints_leave(t, z, base, goals);
@@ -75,10 +70,7 @@ pub fn part_island(t: &mut [u32], z: Sizes, base: u32, keep: u32, labels: &[u32]
 pub fn denial(stamp: u32) -> u32
     ensures { result ≡ denial_of stamp }
 {
-    if stamp > MOST - COOLDOWN {
-        return MOST;
-    }
-    stamp + COOLDOWN
+    stamp.saturating_add(COOLDOWN)
 }
 
 // Count 0, denial set.
@@ -105,28 +97,21 @@ pub fn split_island(
     ensures { Steps z (splitting i) t.old t.new }
 {
     let shape = split_label::label_island(t, z, i, parent, size, first, labels);
-    if shape.components <= 1 {
-        check_island(t, z, i);
-        return;
+    if shape.components > 1 {
+        part_island(t, z, i, shape.keep, labels, first);
     }
-    part_island(t, z, i, shape.keep, labels, first);
     check_island(t, z, i);
 }
 
-// The same in the first n words of each slice.
-fn split_in(
-    t: &mut [u32],
-    z: Sizes,
-    i: u32,
-    n: usize,
-    parent: &mut [u32],
-    size: &mut [u32],
-    first: &mut [u32],
-    labels: &mut [u32],
-)
-    requires { Splittable z i n t.old × Scratch n parent.old size.old first.old labels.old }
+// The same in scratch of its own: four lists of N words, of which the first n are used.
+fn split_sized<const N: usize>(t: &mut [u32], z: Sizes, i: u32, n: usize)
+    requires { Splittable z i n t.old × (n ≤ N) × (N ≤ 4096) }
     ensures { Steps z (splitting i) t.old t.new }
 {
+    let mut parent = [0u32; N];
+    let mut size = [0u32; N];
+    let mut first = [0u32; N];
+    let mut labels = [0u32; N];
     split_island(
         t,
         z,
@@ -138,40 +123,16 @@ fn split_in(
     );
 }
 
-// The same in scratch of its own, of n bodies that are few: clearing more scratch would take longer than the split.
-fn split_few(t: &mut [u32], z: Sizes, i: u32, n: usize)
-    requires { Splittable z i n t.old × (n ≤ 256) }
-    ensures { Steps z (splitting i) t.old t.new }
-{
-    let mut parent = [0u32; 256];
-    let mut size = [0u32; 256];
-    let mut first = [0u32; 256];
-    let mut labels = [0u32; 256];
-    split_in(t, z, i, n, &mut parent, &mut size, &mut first, &mut labels);
-}
-
-// The same, of any n bodies.
-fn split_many(t: &mut [u32], z: Sizes, i: u32, n: usize)
-    requires { Splittable z i n t.old }
-    ensures { Steps z (splitting i) t.old t.new }
-{
-    let mut parent = [0u32; 4096];
-    let mut size = [0u32; 4096];
-    let mut first = [0u32; 4096];
-    let mut labels = [0u32; 4096];
-    split_in(t, z, i, n, &mut parent, &mut size, &mut first, &mut labels);
-}
-
 // split_island_now, of a live island with n bodies.
 pub fn split_live(t: &mut [u32], z: Sizes, i: u32, n: usize)
     requires { Splittable z i n t.old }
     ensures { Steps z (splitting i) t.old t.new }
 {
     if n <= FEW {
-        split_few(t, z, i, n);
-        return;
+        split_sized::<FEW>(t, z, i, n);
+    } else {
+        split_sized::<MANY>(t, z, i, n);
     }
-    split_many(t, z, i, n);
 }
 
 // split_island_now: a number not live is 6.

@@ -1,9 +1,8 @@
 -- The bodies of an island, and the places of those that a handle names.
-use mathlib.Core.Path.{◌≡◌, refl, sym, ◌∙◌, ap}
+use mathlib.Core.Path.{◌≡◌, refl, ap}
 use mathlib.Core.Logic.{◌≢◌}
 use mathlib.Core.List.{List}
 use Prim.Native.Nat.{ℕ, ◌<◌}
-use native.Mathlib.Omega.{arith}
 use Rattle.list_in_table.specs.Rules.{none, list_of}
 use Rattle.list_in_table.proofs.Laws.{held_in}
 use Rattle.def_kinds.specs.declared.Sizes.{Sizes}

@@ -12,9 +12,7 @@ use Rattle.def_kinds.specs.declared.Sizes.{Sizes}
 use Rattle.def_state.specs.World.{Handle, World}
 use Rattle.def_state.specs.Split.{node_of}
 use Rattle.table_meaning.specs.Decode.{handle_at, world_of}
-use Rattle.table_meaning.specs.Sound.{Sound}
 use Rattle.core_laws.specs.Steps.{handle}
-use Rattle.core_laws.specs.Lives.{Lives}
 use Rattle.split_forest.specs.Forest.{at, JoinDone, JoinReady}
 use Rattle.split_label.specs.Ends.{pair_at, pair_ends, Goes, Over}
 use Rattle.split_label.proofs.Nodes.{node-lt}
@@ -24,12 +22,9 @@ module _ {Z : Sizes} {t : List ℕ} {i : ℕ} {parent size : List ℕ} (O : Over
   abbrev w : World
   w = world_of Z t
 
-  -- the nodes of the two handles, by the words that were read
-  pub first-node : {a s g : ℕ} → a ≡ node_of w i (handle s g) → s ≡ get_or x j 0 → g ≡ get_or x (j + 1) 0 → a ≡ node_of w i (handle_at x j)
-  first-node e p q = e ∙ rw (p, q)
-
-  pub second-node : {a s g : ℕ} → a ≡ node_of w i (handle s g) → s ≡ get_or x (j + 2) 0 → g ≡ get_or x (j + 3) 0 → a ≡ node_of w i (handle_at x (j + 2))
-  second-node e p q = let k : j + 3 ≡ j + 2 + 1 = omega arith in e ∙ rw (p, q, k)
+  -- the node of a handle, by the words that were read
+  pub node-read : (k : ℕ) {a s g : ℕ} → a ≡ node_of w i (handle s g) → (s ≡ get_or x k 0) × (g ≡ get_or x (k + 1) 0) → a ≡ node_of w i (handle_at x k)
+  node-read k e p = e ∙ rw (p.0, p.1)
 
   -- an end that is no member
   pub link-past : (node_of w i (handle_at x j) ≡ none) ⊎ (node_of w i (handle_at x (j + 2)) ≡ none)

@@ -24,11 +24,9 @@ pub fn run_on(t: &mut [u32], z: Sizes) -> Answer
     requires { Sound z t.old × (z.slots ≤ 4096) }
     ensures { Does z run_pending_split t.old result t.new }
 {
-    let is_pending = table_words::get(t, z, Table::Head, word::IS_PENDING);
-    if is_pending != 1 {
+    let Some(i) = core_live::pending(t, z) else {
         return Ok(Outcome::Nothing);
-    }
-    let i = table_words::get(t, z, Table::Head, word::PENDING);
+    };
     table_words::set_all(t, z, Table::Head, word::IS_PENDING, &[0, 0]);
     if !core_live::is_live(t, z, i) {
         return Ok(Outcome::Nothing);
@@ -51,13 +49,12 @@ pub fn may_bid(t: &[u32], z: Sizes, i: u32) -> bool
         return false;
     }
     let removals = table_words::get(t, z, Table::Rows, word::ROW * (i as usize));
-    if removals == 0 {
-        return false;
-    }
-    let until = table_words::get(t, z, Table::Rows, word::ROW * (i as usize) + word::DENIED_UNTIL);
+    let until = table_words::get(
+        t,
+        z,
+        Table::Rows,
+        word::ROW * (i as usize) + word::DENIED_UNTIL,
+    );
     let stamp = table_words::get(t, z, Table::Head, word::STAMP);
-    if stamp < until {
-        return false;
-    }
-    true
+    removals != 0 && stamp >= until
 }

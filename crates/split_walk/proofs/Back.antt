@@ -1,22 +1,22 @@
 -- A walk goes back by the links to the one before, while what it has passed leaves; tables that stay.
 use mathlib.Core.Path.{◌≡◌, refl, sym, ◌∙◌, ap, subst}
-use mathlib.Core.Logic.{◌⊎◌, inl, inr, ◌≢◌, ⊎_elim}
+use mathlib.Core.Logic.{⊎_elim}
 use mathlib.Core.List.{List}
-use Prim.Native.Nat.{ℕ, ◌+◌, ◌-◌, ◌*◌, ◌≤◌, ◌<◌}
+use Prim.Native.Nat.{ℕ, ◌+◌, ◌-◌, ◌*◌, ◌<◌}
 use native.Mathlib.Omega.{arith}
-use lib.ListN.{length, get_or}
-use Rattle.list_in_table.specs.Rules.{none, View, Rules, Held, First, After, Full, list_of}
+use lib.ListN.{get_or}
+use Rattle.list_in_table.specs.Rules.{View, Rules, First, After, list_of}
 use Rattle.list_in_table.proofs.Laws.{held_in, full}
 use Rattle.list_in_table.proofs.Order.{At, list_at, list-of}
 use Rattle.def_kinds.specs.declared.Sizes.{Sizes}
 use Rattle.def_state.specs.World.{World}
-use Rattle.table_meaning.specs.Layout.{Tables, tables, Extents, extents, members_in, freed_in}
+use Rattle.table_meaning.specs.Layout.{Tables, tables, extents}
 use Rattle.table_meaning.specs.Decode.{world_of}
 use Rattle.table_meaning.specs.Does.{SameBehind}
 use Rattle.table_meaning.specs.Larger.{Larger}
 use Rattle.table_meaning.proofs.Frame.{larger-then, kept_then}
 use Rattle.core_laws.specs.Drops.{Stays}
-use Rattle.core_laws.specs.Loose.{OpenAt, Loosely, Moves, EntryLeft, BodiesStay}
+use Rattle.core_laws.specs.Loose.{Loosely, Moves, EntryLeft, BodiesStay}
 use Rattle.split_walk.specs.Walk.{Goals}
 
 -- ---- one back

@@ -1,25 +1,23 @@
 -- The bodies leave; every island that is not free has a body then.
 use mathlib.Core.Path.{◌≡◌, refl, sym, ◌∙◌, ap, subst}
-use mathlib.Core.Logic.{◌⊎◌, inl, inr, ◌≢◌, ⊎_elim}
+use mathlib.Core.Logic.{◌≢◌}
 use mathlib.Core.List.{List}
 use Prim.Native.Nat.{ℕ, zero, suc, ◌+◌, ◌-◌, ◌*◌, ◌≤◌, ◌<◌}
 use native.Mathlib.Omega.{arith}
 use lib.ListN.{length, get_or}
-use lib.Dec.{eqb}
 use borrow.Author.Tests.{eq-eqb, ne_eqb}
 use Rattle.list_in_table.specs.Rules.{none, View, Rules}
-use Rattle.def_kinds.specs.Choice.{pick}
 use Rattle.list_in_table.proofs.Laws.{either}
 use Rattle.list_in_table.proofs.Order.{At}
 use Rattle.def_kinds.specs.declared.Sizes.{Sizes}
 use Rattle.def_state.specs.World.{World}
 use Rattle.def_state.specs.Split.{body_moved, bodies_leave}
-use Rattle.table_meaning.specs.Layout.{Tables, tables, Extents, extents, members_in, freed_in}
+use Rattle.table_meaning.specs.Layout.{tables, extents, members_in, freed_in}
 use Rattle.table_meaning.specs.Decode.{world_of}
-use Rattle.core_laws.specs.Loose.{OpenAt, Loosely, Moves, EntryLeft}
+use Rattle.core_laws.specs.Loose.{Moves, EntryLeft}
 use Rattle.core_laws.proofs.Loose.{moves-as, moves-none}
 use Rattle.split_move.specs.Shift.{BodyMoved, BodyGoes}
-use Rattle.split_walk.specs.Walk.{goes, body_leaves, Goals, KeepStays, GoalOf, BodiesLeft}
+use Rattle.split_walk.specs.Walk.{goes, body_leaves, Goals, KeepStays, BodiesLeft}
 use Rattle.split_walk.proofs.Back.{walk-on, walk_start, left-none, way}
 
 pub record BodiesGo (Z : Sizes) (base keep : ℕ) (goals t0 t : List ℕ) (p s : ℕ) : Type 0 where

@@ -1,26 +1,26 @@
 -- The contact links leave.
 use mathlib.Core.Path.{◌≡◌, refl, sym, ◌∙◌, ap, subst, fun_ext}
-use mathlib.Core.Logic.{◌⊎◌, inl, inr, ◌≢◌, ⊎_elim}
+use mathlib.Core.Logic.{◌≢◌}
 use mathlib.Core.List.{List}
-use Prim.Native.Nat.{ℕ, zero, suc, ◌+◌, ◌-◌, ◌*◌, ◌≤◌, ◌<◌}
+use Prim.Native.Nat.{ℕ, zero, suc, ◌-◌, ◌<◌}
 use native.Mathlib.Omega.{arith}
-use lib.ListN.{length, get_or}
+use lib.ListN.{get_or}
 use lib.Dec.{eqb}
 use borrow.Author.Tests.{eq-eqb, ne_eqb}
-use Rattle.list_in_table.specs.Rules.{none, View, Rules}
+use Rattle.list_in_table.specs.Rules.{none, Rules}
 use Rattle.def_kinds.specs.Choice.{pick}
 use Rattle.list_in_table.proofs.Order.{At}
 use Rattle.def_kinds.specs.declared.Sizes.{Sizes}
 use Rattle.def_state.specs.Plain.{top}
-use Rattle.def_state.specs.World.{Handle, ContactLink, absent_contact, World, island_at}
-use Rattle.def_state.specs.Links.{contact_pushed, contact_removed}
+use Rattle.def_state.specs.World.{Handle, absent_contact, World, island_at}
+use Rattle.def_state.specs.Links.{contact_removed}
 use Rattle.def_state.specs.Split.{link_goal, contacts_leave}
-use Rattle.table_meaning.specs.Layout.{Tables, tables, Extents, extents, members_in, contacts_in}
+use Rattle.table_meaning.specs.Layout.{Tables, tables, extents, contacts_in}
 use Rattle.table_meaning.specs.Decode.{contact_at, decode, world_of}
 use Rattle.core_laws.specs.Steps.{handle}
 use Rattle.core_laws.specs.Drops.{Stays, JointsStay}
 use Rattle.core_laws.specs.Linking.{contact_of}
-use Rattle.core_laws.specs.Loose.{OpenAt, Loosely, Moves, EntryLeft, ContactGone}
+use Rattle.core_laws.specs.Loose.{OpenAt, Moves, EntryLeft, ContactGone}
 use Rattle.core_laws.proofs.Loose.{moves-as, moves-none}
 use Rattle.core_laws.proofs.Stays.{stays-refl, stays_then}
 use Rattle.core_laws.proofs.Touching.{link-held}
@@ -73,8 +73,9 @@ module _ {Z : Sizes} {t : List ℕ} (base : ℕ) (goals : List ℕ) (e : ℕ) (G
         left = left-none (contacts_in Z T) base p;
       }
 
-  pub contact-drops : {t' : List ℕ} → to ≢ base → to ≡ top → ContactGone Z e t t' → ContactLeft Z base goals t t' e
-  contact-drops {t'} d h D =
+  pub contact-drops : {t' : List ℕ} → to ≡ top → ContactGone Z e t t' → ContactLeft Z base goals t t' e
+  contact-drops {t'} h D =
+      let d : to ≢ base = λ x. not_none (sym x ∙ h) in
       record {
         moves = moves-as (contact_removed base p) f (sym (leaves ∙ rw (ne_eqb to base d, eq-eqb to top h))) (subst (λ (b : ℕ). Moves Z (contact_removed b p) t t') A.home D.moves);
         stays = D.stays;

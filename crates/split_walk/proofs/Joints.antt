@@ -1,25 +1,25 @@
 -- The joint links leave.
 use mathlib.Core.Path.{◌≡◌, refl, sym, ◌∙◌, ap, subst, fun_ext}
-use mathlib.Core.Logic.{◌⊎◌, inl, inr, ◌≢◌, ⊎_elim}
+use mathlib.Core.Logic.{◌≢◌}
 use mathlib.Core.List.{List}
-use Prim.Native.Nat.{ℕ, zero, suc, ◌+◌, ◌-◌, ◌*◌, ◌≤◌, ◌<◌}
+use Prim.Native.Nat.{ℕ, zero, suc, ◌+◌, ◌-◌, ◌<◌}
 use native.Mathlib.Omega.{arith}
-use lib.ListN.{length, get_or}
+use lib.ListN.{get_or}
 use lib.Dec.{eqb}
 use borrow.Author.Tests.{eq-eqb, ne_eqb}
-use Rattle.list_in_table.specs.Rules.{none, View, Rules}
+use Rattle.list_in_table.specs.Rules.{none, Rules}
 use Rattle.def_kinds.specs.Choice.{pick}
 use Rattle.list_in_table.proofs.Order.{At}
 use Rattle.def_kinds.specs.declared.Sizes.{Sizes}
 use Rattle.def_state.specs.Plain.{top}
-use Rattle.def_state.specs.World.{Handle, JointLink, absent_joint, World, island_at}
+use Rattle.def_state.specs.World.{Handle, absent_joint, World, island_at}
 use Rattle.def_state.specs.Links.{joint_removed}
 use Rattle.def_state.specs.Split.{link_goal, joint_moved, joints_leave}
-use Rattle.table_meaning.specs.Layout.{Tables, tables, Extents, extents, members_in, joints_in}
+use Rattle.table_meaning.specs.Layout.{Tables, tables, extents, joints_in}
 use Rattle.table_meaning.specs.Decode.{handle_at, joint_at, decode, world_of}
 use Rattle.core_laws.specs.Steps.{handle}
 use Rattle.core_laws.specs.Drops.{Stays, ContactsStay}
-use Rattle.core_laws.specs.Loose.{OpenAt, Loosely, Moves, EntryLeft, JointGone}
+use Rattle.core_laws.specs.Loose.{OpenAt, Moves, EntryLeft, JointGone}
 use Rattle.core_laws.proofs.Loose.{moves-as, moves-none}
 use Rattle.core_laws.proofs.Stays.{stays-refl, stays_then}
 use Rattle.core_laws.proofs.JointKeys.{link_at}
@@ -79,8 +79,9 @@ module _ {Z : Sizes} {t : List ℕ} (base : ℕ) (goals : List ℕ) (e : ℕ) (G
         left = left-none (joints_in Z T) base p;
       }
 
-  pub joint-drops : {t' : List ℕ} → to ≢ base → to ≡ top → JointGone Z e t t' → JointLeft Z base goals t t' e
-  joint-drops {t'} d h D =
+  pub joint-drops : {t' : List ℕ} → to ≡ top → JointGone Z e t t' → JointLeft Z base goals t t' e
+  joint-drops {t'} h D =
+      let d : to ≢ base = λ x. not_none (sym x ∙ h) in
       record {
         moves = moves-as (joint_removed base p) f (sym (leaves ∙ rw (ne_eqb to base d, eq-eqb to top h))) (subst (λ (b : ℕ). Moves Z (joint_removed b p) t t') A.home D.moves);
         stays = D.stays;

@@ -1,21 +1,27 @@
 -- The walks of a split, from the highest place down: one step of each (Split contacts_leave, joints_leave, bodies_leave), and what they ask.
-use Rattle.std.specs.Prelude.{◌≡◌, ◌≢◌, List, ℕ, ◌+◌, ◌*◌, ◌≤◌, ◌<◌, length, get_or, eqb}
+use Rattle.std.specs.Prelude.{◌≡◌, List, ℕ, ◌<◌, length, get_or, eqb}
 use Rattle.list_in_table.specs.Rules.{none}
 use Rattle.def_kinds.specs.Choice.{pick}
+use Rattle.def_kinds.specs.declared.Handle.{Handle as Named}
 use Rattle.def_kinds.specs.declared.Sizes.{Sizes}
 use Rattle.def_state.specs.Plain.{top}
 use Rattle.def_state.specs.World.{Handle, absent_contact, absent_joint, World, island_at}
 use Rattle.def_state.specs.Links.{contact_removed, joint_removed}
 use Rattle.def_state.specs.Split.{link_goal, joint_moved, body_moved, contacts_leave, joints_leave, bodies_leave}
 use Rattle.table_meaning.specs.Layout.{tables, extents, members_in, contacts_in, joints_in, freed_in}
-use Rattle.table_meaning.specs.Decode.{world_of}
 use Rattle.core_laws.specs.Drops.{Stays, ContactsStay, JointsStay}
+use Rattle.core_laws.specs.Steps.{handle}
 use Rattle.core_laws.specs.Loose.{OpenAt, Loosely, Peopled, Moves, EntryLeft}
 use Rattle.split_move.specs.Shift.{contact_moved, node_at}
 
 -- where the body at each place goes
 abbrev pub goes : List ℕ → ℕ → ℕ
 goes goals n = get_or goals n 0
+
+-- where a link between these two bodies goes, or none
+abbrev pub goal_of : Sizes → List ℕ → ℕ → List ℕ → Named → Named → ℕ
+goal_of Z t base goals first second =
+    link_goal (goes goals) (node_at Z (tables Z t) base (handle first.slot.0 first.generation)) (node_at Z (tables Z t) base (handle second.slot.0 second.generation))
 
 unfoldable pub contact_leaves : (Handle → ℕ) → (ℕ → ℕ) → ℕ → ℕ → World → World
 contact_leaves node g base p w =

@@ -3,10 +3,13 @@
 // come out is tests/wraps_model.py's, a model of document 01 that shares nothing with this code.
 #![tactic(auto)]
 
-ghost use Rattle.std.specs.Prelude.{◌<◌, ◌≤◌, length};
-
-use lesson_dump::layout::STAMP;
-use lesson_script::answer::answer_line;
+use lesson_cells::word;
+use lesson_dump::layout::{STAMP, TOTAL};
+use lesson_script::answer::Yard;
+use lesson_script::read::{LIST, WAITING};
+use lesson_text::Output;
+use std::fmt;
+use std::fmt::Write;
 
 // The first stamp, and how many follow each other.
 const FIRST: u32 = 4294967279;
@@ -14,151 +17,74 @@ const FIRST: u32 = 4294967279;
 const STAMPS: u32 = 38;
 
 fn main(rt: HostRuntime) {
-    let mut t = [0u32; lesson_dump::layout::TOTAL];
-    let mut list = [0u32; lesson_script::read::LIST];
-    let mut out = [0u8; 65536];
-    let used = at_each(&rt, &mut t, &mut list, &mut out);
-    let used = through_all(&rt, &mut t, &mut list, &mut out, used);
-    lesson_text::flush(&rt, &out, used);
+    let mut t = [0u32; TOTAL];
+    let mut list = [0u32; LIST];
+    let mut yard = Yard {
+        t: &mut t,
+        list: &mut list,
+    };
+    let mut out: Output<'_, HostRuntime, WAITING> = Output::new(&rt);
+    // No write to an `Output` fails.
+    let _ = at_each(&mut yard, &mut out);
+    let _ = through_all(&mut yard, &mut out);
+    out.flush();
 }
 
 // A yard of its own at each stamp.
-fn at_each(rt: &(impl Print + Eprint), t: &mut [u32], list: &mut [u32], out: &mut [u8]) -> usize {
-    let mut used: usize = 0;
-    let mut k: u32 = 0;
+fn at_each(yard: &mut Yard<'_>, out: &mut impl Write) -> fmt::Result {
     // One turn for each stamp.
-    while k < STAMPS {
-        used = yard(rt, t, list, out, used, std::num::wrapping_add_u32(FIRST, k));
-        used = two_scans(rt, t, list, out, used);
-        k += 1;
+    for k in 0..STAMPS {
+        set_up(yard, FIRST.wrapping_add(k), out)?;
+        two_scans(yard, out)?;
     }
-    used
+    Ok(())
 }
 
 // One yard, and a scan at each stamp in turn.
-fn through_all(
-    rt: &(impl Print + Eprint),
-    t: &mut [u32],
-    list: &mut [u32],
-    out: &mut [u8],
-    used: usize,
-) -> usize {
-    let mut used = yard(rt, t, list, out, used, FIRST);
-    let mut k: u32 = 0;
+fn through_all(yard: &mut Yard<'_>, out: &mut impl Write) -> fmt::Result {
+    set_up(yard, FIRST, out)?;
     // One turn for each stamp.
-    while k < STAMPS {
-        used = run(rt, t, list, b"begin\nobserve 0 1\nfinish\n", out, used);
-        k += 1;
+    for _ in 0..STAMPS {
+        run(yard, "begin\nobserve 0 1\nfinish\n", out)?;
     }
-    used
+    Ok(())
 }
 
 // Two awake islands, 0 and 1, of one body each, in a yard whose last scan had this stamp.
-fn yard(
-    rt: &(impl Print + Eprint),
-    t: &mut [u32],
-    list: &mut [u32],
-    out: &mut [u8],
-    used: usize,
-    stamp: u32,
-) -> usize {
-    let used = lesson_text::line(rt, out, used, b"from ", stamp as u64);
-    let used = run(
-        rt,
-        t,
-        list,
-        b"reset\nput 0 0 0 1 0\nput 1 0 0 1 0\nensure 0 0\nensure 1 0\n",
+fn set_up(yard: &mut Yard<'_>, stamp: u32, out: &mut impl Write) -> fmt::Result {
+    writeln!(out, "from {stamp}")?;
+    run(
+        yard,
+        "reset\nput 0 0 0 1 0\nput 1 0 0 1 0\nensure 0 0\nensure 1 0\n",
         out,
-        used,
-    );
-    set_stamp(t, stamp);
-    used
+    )?;
+    if let Some(word) = yard.t.get_mut(STAMP) {
+        *word = stamp;
+    }
+    Ok(())
 }
 
 // Both islands are observed, the second first, and an output that is too short is lent before one that is not; then one of the
 // second island's two observations is not eligible.
-fn two_scans(
-    rt: &(impl Print + Eprint),
-    t: &mut [u32],
-    list: &mut [u32],
-    out: &mut [u8],
-    used: usize,
-) -> usize {
-    let used = run(
-        rt,
-        t,
-        list,
-        b"observe 0 1\nbegin\nobserve 1 1\nobserve 0 1\nobserve 2 1\nfinish 1\nfinish\nfinish\n",
-        out,
-        used,
-    );
+fn two_scans(yard: &mut Yard<'_>, out: &mut impl Write) -> fmt::Result {
     run(
-        rt,
-        t,
-        list,
-        b"begin\nobserve 1 1\nobserve 0 1\nobserve 1 0\nfinish\n",
+        yard,
+        "observe 0 1\nbegin\nobserve 1 1\nobserve 0 1\nobserve 2 1\nfinish 1\nfinish\nfinish\n",
         out,
-        used,
+    )?;
+    run(
+        yard,
+        "begin\nobserve 1 1\nobserve 0 1\nobserve 1 0\nfinish\n",
+        out,
     )
 }
 
-// The lines of a script, each of which has a newline.
-fn run(
-    rt: &(impl Print + Eprint),
-    t: &mut [u32],
-    list: &mut [u32],
-    lines: &[u8],
-    out: &mut [u8],
-    used: usize,
-) -> usize {
-    let mut used = used;
-    let mut at: usize = 0;
-    // One turn for each line, which has a byte at the least.
-    while at < lines.len() {
-        let end = line_end(lines, at);
-        used = say(rt, t, list, &lines[at..end], out, used);
-        at = end + 1;
+// Each line of a script, its answer and the stamp.
+fn run(yard: &mut Yard<'_>, script: &str, out: &mut impl Write) -> fmt::Result {
+    // One turn for each line.
+    for line in script.lines() {
+        yard.answer_line(line.as_bytes(), 0, out)?;
+        writeln!(out, "stamp {}", word(yard.t, STAMP))?;
     }
-    used
-}
-
-// Where the line that begins at `at` ends.
-fn line_end(lines: &[u8], at: usize) -> usize
-    requires { at < length lines.now }
-    ensures { (at ≤ result) × (result < length lines.now) }
-{
-    let mut end = at;
-    // One turn for each byte of the line.
-    while end < lines.len() - 1 {
-        if lines[end] == b'\n' {
-            return end;
-        }
-        end += 1;
-    }
-    end
-}
-
-// A line's answer, and the stamp.
-fn say(
-    rt: &(impl Print + Eprint),
-    t: &mut [u32],
-    list: &mut [u32],
-    line: &[u8],
-    out: &mut [u8],
-    used: usize,
-) -> usize {
-    let used = answer_line(rt, t, list, line, 0, out, used);
-    lesson_text::line(
-        rt,
-        out,
-        used,
-        b"stamp ",
-        lesson_cells::word(t, STAMP) as u64,
-    )
-}
-
-fn set_stamp(t: &mut [u32], stamp: u32) {
-    if STAMP < t.len() {
-        t[STAMP] = stamp;
-    }
+    Ok(())
 }

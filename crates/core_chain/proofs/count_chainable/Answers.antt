@@ -1,18 +1,20 @@
--- `core_chain::count_chainable` meets its contract. The invariant: the count and what is left of the list make the whole.
--- The measure is what is left of the list. Assumes nothing.
+-- `core_chain::count_chainable` meets its contract: the chain keeps the places of the handles that a chain links. Assumes nothing.
+use borrow.Author.Rules.{rules}
+use borrow.Author.Tests.{tests}
 use native.Mathlib.Omega.{arith}
-use mathlib.Core.Path.{sym, ◌∙◌}
-use Rattle.table_meaning.specs.Decode.{world_of}
-use Rattle.core_chain.proofs.Laws.{count_yes, count_no, count-end}
+use mathlib.Core.Path.{◌∙◌}
+use Prim.Native.Nat.{ℕ, ◌*◌, ◌/◌}
+use lib.ListN.{length}
+use Rattle.std.proofs.lemmas.Iterator.{YieldsList-from_range}
+use Rattle.std.proofs.lemmas.Iterator.Consumers.{YieldsList-from_filter, count_from_yields_List}
+use Rattle.def_state.specs.Chain.{chainable}
+use Rattle.table_meaning.specs.Decode.{handle_at, world_of}
+use Rattle.core_chain.proofs.Laws.{chained-count}
 use Rattle.core_chain.proofs.count_chainable.Goals as goal
-use Rattle.core_chain.proofs.count_chainable.Goals.{then-is_chainable, else-is_chainable}
-
-pub loop-k-preserved : goal.loop-k-preserved
-loop-k-preserved c =
-    elim c.if-is_chainable.branch [
-      | then-is_chainable w ↦ (omega arith, omega arith, omega (arith, count_yes (world_of c.args.z c.args.t.now) c.args.list.now c.args.n c.loop-k.k c.loop-k.found c.loop-k.invariant.2 (omega arith) (sym c.is_chainable.ensures ∙ w.if-is_chainable.true)))
-      | else-is_chainable w ↦ (omega arith, omega arith, omega (arith, count_no (world_of c.args.z c.args.t.now) c.args.list.now c.args.n c.loop-k.k c.loop-k.found c.loop-k.invariant.2 (omega arith) (sym c.is_chainable.ensures ∙ w.if-is_chainable.false)))
-    ]
 
 pub returns : goal.returns
-returns c = (count-end (world_of c.args.z c.args.t.now) c.args.list.now c.args.n c.loop-k.k c.loop-k.found c.loop-k.invariant.2 (omega arith), omega arith)
+returns c =
+    let w = world_of c.args.z c.args.t.now in
+    let n = length c.args.list.now / 2 in
+    count_from_yields_List c.filter.result c.count.result c.count.ensures.ran (YieldsList-from_filter _ (λ (k : ℕ). chainable w (handle_at c.args.list.now (2 * k))) (YieldsList-from_range 0 n n c.filter.ensures.source (omega arith)) c.filter.ensures.closure (λ x r q k. search (rules, tests)))
+    ∙ chained-count w c.args.list.now 0 n

@@ -1,10 +1,5 @@
-use Prim.Native.Nat.{◌-◌}
-use lib.ListN.{length}
 use Rattle.split_island.specs.Assign.{Assigning}
 use Rattle.split_island.proofs.assign_goals.Given as goal
 
 abbrev pub invariant-loop-p : goal.invariant-loop-p
 invariant-loop-p l = Assigning l.z l.base l.keep l.asleep l.labels l.initial.t l.t l.goals l.p
-
-abbrev pub decreases-loop-p : goal.decreases-loop-p
-decreases-loop-p l = length l.labels - l.p

@@ -1,8 +1,8 @@
-use Rattle.split_island.proofs.Check.{denial-most, denial-some}
+use Rattle.std.proofs.Common.{arith}
+use Rattle.std.proofs.lemmas.Bool.Decides.{nat_tests}
+use Rattle.def_state.specs.Split.{denial}
 use Rattle.split_island.proofs.denial.Goals as goal
 
-pub returns-then-stamp : goal.returns-then-stamp
-returns-then-stamp c = denial-most c.args.stamp c.if-stamp.true
-
 pub returns : goal.returns
-returns c = denial-some c.args.stamp c.if-stamp.false
+unfolding denial
+returns c = grind (arith, nat_tests)

@@ -3,20 +3,20 @@ use mathlib.Core.Path.{sym, ◌∙◌}
 use Rattle.split_pending.proofs.Pending.{cleared-steps, run_none, run-dead, run-asleep, run-done}
 use Rattle.split_pending.proofs.run_on.Goals as goal
 
-pub returns-then-is_pending-ne1 : goal.returns-then-is_pending-ne1
-returns-then-is_pending-ne1 c = run_none c.requires.0 (λ e. c.if-is_pending-ne1.true (c.get-is_pending.ensures.0 ∙ e))
+pub returns-in_default : goal.returns-in_default
+returns-in_default c = run_none c.requires.0 c.in_default.ensures
 
 pub is_live-requires : goal.is_live-requires
 is_live-requires c = (cleared-steps c.requires.0 c.set_all.ensures).does.sound
 
 pub returns-then-not-is_live : goal.returns-then-not-is_live
-returns-then-not-is_live c = run-dead c.requires.0 c.get-i.result (sym c.get-is_pending.ensures.0 ∙ c.if-is_pending-ne1.false) c.get-i.ensures.0 (cleared-steps c.requires.0 c.set_all.ensures) (sym c.is_live.ensures.says ∙ c.if-not-is_live.true)
+returns-then-not-is_live c = run-dead c.requires.0 c.in-Some.i c.in-Some.ensures.0 c.in-Some.ensures.1 (cleared-steps c.requires.0 c.set_all.ensures) (sym c.is_live.ensures.says ∙ c.if-not-is_live.true)
 
 pub get-asleep-requires : goal.get-asleep-requires
 get-asleep-requires c = (let l = (c.is_live.ensures.lives c.if-not-is_live.false).in_use in let b = (cleared-steps c.requires.0 c.set_all.ensures).does.sound.good.islands_le in ((cleared-steps c.requires.0 c.set_all.ensures).does.sound.long, omega arith))
 
 pub returns-then-asleep-eq1 : goal.returns-then-asleep-eq1
-returns-then-asleep-eq1 c = run-asleep c.requires.0 c.get-i.result (sym c.get-is_pending.ensures.0 ∙ c.if-is_pending-ne1.false) c.get-i.ensures.0 (cleared-steps c.requires.0 c.set_all.ensures) (c.is_live.ensures.lives c.if-not-is_live.false) (sym c.get-asleep.ensures.0 ∙ c.if-asleep-eq1.true)
+returns-then-asleep-eq1 c = run-asleep c.requires.0 c.in-Some.i c.in-Some.ensures.0 c.in-Some.ensures.1 (cleared-steps c.requires.0 c.set_all.ensures) (c.is_live.ensures.lives c.if-not-is_live.false) (sym c.get-asleep.ensures.0 ∙ c.if-asleep-eq1.true)
 
 pub count-bodies-requires : goal.count-bodies-requires
 count-bodies-requires c = (let l = (c.is_live.ensures.lives c.if-not-is_live.false).in_use in let b = (cleared-steps c.requires.0 c.set_all.ensures).does.sound.good.islands_le in ((cleared-steps c.requires.0 c.set_all.ensures).does.sound.long, omega arith))
@@ -28,4 +28,4 @@ pub shape_of-t : goal.shape_of-t
 shape_of-t c = c.split_live.ensures.does.sound.long ∙ sym c.requires.0.long
 
 pub returns : goal.returns
-returns c = run-done c.requires.0 c.get-i.result (sym c.get-is_pending.ensures.0 ∙ c.if-is_pending-ne1.false) c.get-i.ensures.0 (cleared-steps c.requires.0 c.set_all.ensures) (c.is_live.ensures.lives c.if-not-is_live.false) (λ e. c.if-asleep-eq1.false (c.get-asleep.ensures.0 ∙ e)) c.split_live.ensures
+returns c = run-done c.requires.0 c.in-Some.i c.in-Some.ensures.0 c.in-Some.ensures.1 (cleared-steps c.requires.0 c.set_all.ensures) (c.is_live.ensures.lives c.if-not-is_live.false) (λ e. c.if-asleep-eq1.false (c.get-asleep.ensures.0 ∙ e)) c.split_live.ensures

@@ -1,16 +1,18 @@
+use mathlib.Core.Path.{refl, sym}
+use Rattle.list_in_table.specs.Rules.{none}
 use Rattle.table_meaning.specs.Layout.{tables}
-use Rattle.core_laws.proofs.Unlink.{link-words}
+use Rattle.core_laws.proofs.Unlink.{link-handles}
 use Rattle.split_walk.proofs.Contacts.{contact-stays, contact-drops, contact-ready, contact-leaves}
 use Rattle.split_walk.proofs.leave_contact.Goals as goal
 
-pub returns-then-to-base : goal.returns-then-to-base
-returns-then-to-base c = contact-stays c.args.base c.args.goals.now c.args.e c.requires.0 c.requires.1 c.get-s1.result c.get-g1.result c.get-s2.result c.get-g2.result c.link_goal-to.result (link-words (tables c.args.z c.args.t.now).touches c.args.e c.get-s1.result c.get-g1.result c.get-s2.result c.get-g2.result c.get-s1.ensures.0 c.get-g1.ensures.0 c.get-s2.ensures.0 c.get-g2.ensures.0) c.link_goal-to.ensures c.if-to-base.true
-
-pub returns-then-to : goal.returns-then-to
-returns-then-to c = contact-drops c.args.base c.args.goals.now c.args.e c.requires.0 c.requires.1 c.get-s1.result c.get-g1.result c.get-s2.result c.get-g2.result c.link_goal-to.result (link-words (tables c.args.z c.args.t.now).touches c.args.e c.get-s1.result c.get-g1.result c.get-s2.result c.get-g2.result c.get-s1.ensures.0 c.get-g1.ensures.0 c.get-s2.ensures.0 c.get-g2.ensures.0) c.link_goal-to.ensures c.if-to-base.false c.if-to.true c.take_contact.ensures
-
 pub move_contact-requires : goal.move_contact-requires
-move_contact-requires c = contact-ready c.args.base c.args.goals.now c.args.e c.requires.0 c.requires.1 c.get-s1.result c.get-g1.result c.get-s2.result c.get-g2.result c.link_goal-to.result (link-words (tables c.args.z c.args.t.now).touches c.args.e c.get-s1.result c.get-g1.result c.get-s2.result c.get-g2.result c.get-s1.ensures.0 c.get-g1.ensures.0 c.get-s2.ensures.0 c.get-g2.ensures.0) c.link_goal-to.ensures c.if-to-base.false c.if-to.false
+move_contact-requires c = contact-ready c.args.base c.args.goals.now c.args.e c.requires.0 c.requires.1 c.handle_at-first.result.slot.0 c.handle_at-first.result.generation c.handle_at-second.result.slot.0 c.handle_at-second.result.generation c.in-Some.to (link-handles (tables c.args.z c.args.t.now).touches c.args.e _ _ _ _ c.handle_at-first.ensures c.handle_at-second.ensures) c.in-Some.ensures.0 c.if-to-base.true c.in-Some.ensures.1
 
-pub returns : goal.returns
-returns c = contact-leaves c.args.base c.args.goals.now c.args.e c.requires.0 c.requires.1 c.get-s1.result c.get-g1.result c.get-s2.result c.get-g2.result c.link_goal-to.result (link-words (tables c.args.z c.args.t.now).touches c.args.e c.get-s1.result c.get-g1.result c.get-s2.result c.get-g2.result c.get-s1.ensures.0 c.get-g1.ensures.0 c.get-s2.ensures.0 c.get-g2.ensures.0) c.link_goal-to.ensures c.if-to-base.false c.if-to.false c.move_contact.ensures
+pub returns-in-None : goal.returns-in-None
+returns-in-None c = contact-drops c.args.base c.args.goals.now c.args.e c.requires.0 c.requires.1 c.handle_at-first.result.slot.0 c.handle_at-first.result.generation c.handle_at-second.result.slot.0 c.handle_at-second.result.generation none (link-handles (tables c.args.z c.args.t.now).touches c.args.e _ _ _ _ c.handle_at-first.ensures c.handle_at-second.ensures) (sym c.in-None.ensures) refl c.take_contact.ensures
+
+pub returns-in-Some : goal.returns-in-Some
+returns-in-Some c = contact-leaves c.args.base c.args.goals.now c.args.e c.requires.0 c.requires.1 c.handle_at-first.result.slot.0 c.handle_at-first.result.generation c.handle_at-second.result.slot.0 c.handle_at-second.result.generation c.in-Some.to (link-handles (tables c.args.z c.args.t.now).touches c.args.e _ _ _ _ c.handle_at-first.ensures c.handle_at-second.ensures) c.in-Some.ensures.0 c.if-to-base.true c.in-Some.ensures.1 c.move_contact.ensures
+
+pub returns-else-to-base : goal.returns-else-to-base
+returns-else-to-base c = contact-stays c.args.base c.args.goals.now c.args.e c.requires.0 c.requires.1 c.handle_at-first.result.slot.0 c.handle_at-first.result.generation c.handle_at-second.result.slot.0 c.handle_at-second.result.generation c.in-Some.to (link-handles (tables c.args.z c.args.t.now).touches c.args.e _ _ _ _ c.handle_at-first.ensures c.handle_at-second.ensures) c.in-Some.ensures.0 c.if-to-base.false

@@ -1,21 +1,28 @@
-use native.Mathlib.Omega.{arith}
-use mathlib.Core.Path.{sym, ◌∙◌, ap}
+use mathlib.Core.Path.{sym}
 use Rattle.core_laws.specs.Steps.{handle}
 use Rattle.split_walk.specs.Walk.{goes}
-use Rattle.split_walk.proofs.Goal.{node-lt, goal-first, goal-second, goal-neither}
+use Rattle.split_walk.proofs.Goal.{goal-neither, member-lt, first-goes, second-goes}
 use Rattle.split_walk.proofs.link_goal.Goals as goal
+use Rattle.split_walk.proofs.link_goal.Goals.{in-Some, in-None+in_ok-place-in-None}
 
-pub bounds-goals-first : goal.bounds-goals-first
-bounds-goals-first c = (let a = node-lt c.args.base c.args.goals.now (handle c.args.s1 c.args.g1) c.requires (λ e. c.if-a.true (c.node_at-a.ensures.0 ∙ e)) in omega (arith, a, c.node_at-a.ensures.0))
+pub returns-in_err-place-in-None : goal.returns-in_err-place-in-None
+returns-in_err-place-in-None c = rw c.from_residual.ensures (sym (goal-neither (goes c.args.goals.now) _ _ c.in-None.ensures c.in_err-place-in-None.ensures))
 
-pub returns-then-a : goal.returns-then-a
-returns-then-a c = ap (goes c.args.goals.now) c.node_at-a.ensures.0 ∙ goal-first (goes c.args.goals.now) _ _ (λ e. c.if-a.true (c.node_at-a.ensures.0 ∙ e))
-
-pub returns-then-b : goal.returns-then-b
-returns-then-b c = goal-neither (goes c.args.goals.now) _ _ (sym c.node_at-a.ensures.0 ∙ c.if-a.false) (sym c.node_at-b.ensures.0 ∙ c.if-b.true)
-
-pub bounds-goals-second : goal.bounds-goals-second
-bounds-goals-second c = (let a = node-lt c.args.base c.args.goals.now (handle c.args.s2 c.args.g2) c.requires (λ e. c.if-b.false (c.node_at-b.ensures.0 ∙ e)) in omega (arith, a, c.node_at-b.ensures.0))
+pub bounds-goals-place : goal.bounds-goals-place
+bounds-goals-place c =
+    let first = handle c.args.first.slot.0 c.args.first.generation in
+    let second = handle c.args.second.slot.0 c.args.second.generation in
+    elim c.match-node_at.branch [
+      | in-Some w ↦ rw w.place-is (member-lt c.args.base c.args.goals.now c.requires w.in-Some.place first w.in-Some.ensures)
+      | in-None+in_ok-place-in-None w ↦ rw w.place-is (member-lt c.args.base c.args.goals.now c.requires w.in_ok-place-in-None.place second w.in_ok-place-in-None.ensures)
+    ]
 
 pub returns : goal.returns
-returns c = ap (goes c.args.goals.now) c.node_at-b.ensures.0 ∙ goal-second (goes c.args.goals.now) _ _ (sym c.node_at-a.ensures.0 ∙ c.if-a.false) (λ e. c.if-b.false (c.node_at-b.ensures.0 ∙ e))
+returns c =
+    let first = handle c.args.first.slot.0 c.args.first.generation in
+    let second = handle c.args.second.slot.0 c.args.second.generation in
+    elim c.match-node_at.branch [
+      | in-Some w ↦ rw w.place-is (first-goes c.args.base c.args.goals.now c.requires w.in-Some.place first w.in-Some.ensures second)
+      | in-None+in_ok-place-in-None w ↦
+          rw w.place-is (second-goes c.args.base c.args.goals.now c.requires w.in_ok-place-in-None.place second w.in_ok-place-in-None.ensures first w.in-None.ensures)
+    ]

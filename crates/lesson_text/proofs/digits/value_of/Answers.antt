@@ -1,12 +1,12 @@
--- Where the loop gives up, the number of the first i + 1 digits is over 64 bits already, and the number of all digits is no less.
-use Rattle.std.proofs.Common.{◌+◌, length, arith}
-use Rattle.lesson_text.proofs.Decimal.{one_more, grown}
+use Rattle.std.proofs.Common.{rules}
+use Rattle.std.proofs.lemmas.Str.{IsUtf8-from_ascii}
+use Rattle.std.proofs.lemmas.Fmt.{IsAscii-from_digits}
+use Rattle.lesson_text.proofs.Decimal.{own, read}
 use Rattle.lesson_text.proofs.digits.value_of.Goals as goal
 
-pub returns-then-sum-gt1844674407370955161 : goal.returns-then-sum-gt1844674407370955161
-returns-then-sum-gt1844674407370955161 c =
-    λ p d. omega (arith, one_more c.args.word.now c.loop-i.i, grown c.args.word.now (c.loop-i.i + 1) (length c.args.word.now) (omega arith))
+-- A word of digits is text.
+pub returns-in_default : goal.returns-in_default
+returns-in_default c = λ some d. absurd ((c.in_default.ensures.cases).0 (IsUtf8-from_ascii c.args.word.now (IsAscii-from_digits c.args.word.now (own.to c.args.word.now d))))
 
-pub returns-then-tens-digit : goal.returns-then-tens-digit
-returns-then-tens-digit c =
-    λ p d. omega (arith, one_more c.args.word.now c.loop-i.i, grown c.args.word.now (c.loop-i.i + 1) (length c.args.word.now) (omega arith))
+pub returns : goal.returns
+returns c = search (rules, read c.args.word.now c.parse.result)

@@ -1,9 +1,0 @@
--- The loop keeps i within the list. Measure: the numbers that are left.
-use Rattle.std.proofs.Common.{◌-◌, ◌≤◌}
-use Rattle.lesson_script.proofs.answer.write_list.Given as goal
-
-abbrev pub invariant-loop-i : goal.invariant-loop-i
-invariant-loop-i g l = l.i ≤ l.n
-
-abbrev pub decreases-loop-i : goal.decreases-loop-i
-decreases-loop-i g l = l.n - l.i

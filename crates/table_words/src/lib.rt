@@ -27,7 +27,7 @@ pub fn buffer_long(z: Sizes) -> usize
 }
 
 // Where a table begins.
-#[inline]
+#[inline(always)]
 pub fn table_at(z: Sizes, k: Table) -> usize
     ensures { result ≡ table_at z k }
 {
@@ -54,7 +54,7 @@ pub fn table_at(z: Sizes, k: Table) -> usize
 }
 
 // How many words it has.
-#[inline]
+#[inline(always)]
 pub fn table_long(z: Sizes, k: Table) -> usize
     ensures { result ≡ table_span z k }
 {
@@ -81,7 +81,7 @@ pub fn table_long(z: Sizes, k: Table) -> usize
 }
 
 // Where a chain table's lists begin in it: behind four words for each element that it has room for.
-#[inline]
+#[inline(always)]
 pub fn ends_at(z: Sizes, k: Table) -> usize
     ensures { result ≡ 4 * room z k }
 {
@@ -118,7 +118,7 @@ pub fn part_of(z: Sizes, k: Table) -> Part
 }
 
 // A word of a table.
-#[inline]
+#[inline(always)]
 pub fn get(t: &[u32], z: Sizes, k: Table, j: usize) -> u32
     requires { (length t.now ≡ total z) × (j < table_span z k) }
     ensures { (result ≡ get_or (table_of k (tables z t.now)) j 0) × (result ≤ 4294967295) }
@@ -128,7 +128,7 @@ pub fn get(t: &[u32], z: Sizes, k: Table, j: usize) -> u32
 }
 
 // The handle in the two words from j on.
-#[inline]
+#[inline(always)]
 pub fn handle_at(t: &[u32], z: Sizes, k: Table, j: usize) -> Handle
     requires { (length t.now ≡ total z) × (j + 1 < table_span z k) }
     ensures { (result.slot.0 ≡ get_or (table_of k (tables z t.now)) j 0) × (result.generation ≡ get_or (table_of k (tables z t.now)) (j + 1) 0) }
@@ -139,7 +139,7 @@ pub fn handle_at(t: &[u32], z: Sizes, k: Table, j: usize) -> Handle
 }
 
 // The key at the joint place p.
-#[inline]
+#[inline(always)]
 pub fn key_at(t: &[u32], z: Sizes, p: u32) -> KeyWords
     requires { (length t.now ≡ total z) × (p < z.joints) }
     ensures { result ≡ key_in (tables z t.now).keys p }
@@ -158,7 +158,7 @@ pub fn key_at(t: &[u32], z: Sizes, p: u32) -> KeyWords
 }
 
 // The word j of a table becomes v.
-#[inline]
+#[inline(always)]
 pub fn set(t: &mut [u32], z: Sizes, k: Table, j: usize, v: u32)
     requires { (length t.old ≡ total z) × (j < table_span z k) }
     ensures { Put (table_at z k) (table_span z k) t.old t.new (set (table_of k (tables z t.old)) j v) }
@@ -181,7 +181,7 @@ pub fn set_all(t: &mut [u32], z: Sizes, k: Table, j: usize, words: &[u32])
 
 // ---- chain tables: an element's home, a list's count and its last element
 
-#[inline]
+#[inline(always)]
 pub fn home(t: &[u32], z: Sizes, k: Table, e: u32) -> u32
     requires { (length t.now ≡ total z) × (e < room z k) }
     ensures { (result ≡ (chain_in z k (tables z t.now)).home e) × (result ≤ 4294967295) }
@@ -190,7 +190,7 @@ pub fn home(t: &[u32], z: Sizes, k: Table, e: u32) -> u32
     list_in_buffer::get_in(t, p, 4 * (e as usize))
 }
 
-#[inline]
+#[inline(always)]
 pub fn count(t: &[u32], z: Sizes, k: Table, i: u32) -> u32
     requires { (length t.now ≡ total z) × (i < list_room z k) }
     ensures { (result ≡ (chain_in z k (tables z t.now)).count i) × (result ≤ 4294967295) }
@@ -200,7 +200,7 @@ pub fn count(t: &[u32], z: Sizes, k: Table, i: u32) -> u32
     list_in_buffer::get_in(t, p, b + 2 * (i as usize))
 }
 
-#[inline]
+#[inline(always)]
 pub fn last(t: &[u32], z: Sizes, k: Table, i: u32) -> u32
     requires { (length t.now ≡ total z) × (i < list_room z k) }
     ensures { (result ≡ (chain_in z k (tables z t.now)).last i) × (result ≤ 4294967295) }

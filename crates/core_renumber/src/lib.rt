@@ -12,15 +12,16 @@ ghost use Rattle.core_laws.specs.Renumbering.{Handing};
 ghost use Rattle.def_kinds.specs.Answers.{Done};
 
 use def_kinds::{Answer, NONE, Outcome, Refusal, Sizes};
+use list_in_buffer::Part;
 use table_meaning::{Table, word};
 
-// In the table of k words at a: the element from, the last in use, hands its place in its list to the element to, which is in no list.
-pub fn rename_in(t: &mut [u32], a: usize, k: usize, ends: usize, from: u32, to: u32)
-    requires { (a + k ≤ length t.old) × RenameReady (part t.old a k) 0 ends from to }
-    ensures { Put a k t.old t.new (renamed (part t.old a k) 0 ends from to) }
+// In the table p: the element from, the last in use, hands its place in its list to the element to, which is in no list.
+pub fn rename_in(t: &mut [u32], p: Part, ends: usize, from: u32, to: u32)
+    requires { (p.at + p.long ≤ length t.old) × RenameReady (part t.old p.at p.long) 0 ends from to }
+    ensures { Put p.at p.long t.old t.new (renamed (part t.old p.at p.long) 0 ends from to) }
 {
-    let end = a + k;
-    list_rename::rename(&mut t[a..end], 0, ends, from, to);
+    let end = p.at + p.long;
+    list_rename::rename(&mut t[p.at..end], 0, ends, from, to);
 }
 
 // The same in a chain table by its name.
@@ -28,10 +29,9 @@ pub fn rename_at(t: &mut [u32], z: Sizes, k: Table, from: u32, to: u32)
     requires { (length t.old ≡ total z) × RenameReady (table_of k (tables z t.old)) 0 (4 * room z k) from to }
     ensures { Put (table_at z k) (table_span z k) t.old t.new (renamed (table_of k (tables z t.old)) 0 (4 * room z k) from to) }
 {
-    let a = table_words::table_at(z, k);
-    let n = table_words::table_long(z, k);
+    let p = table_words::part_of(z, k);
     let b = table_words::ends_at(z, k);
-    rename_in(t, a, n, b, from, to);
+    rename_in(t, p, b, from, to);
 }
 
 // The edge last, the last that is tracked, is linked, and takes the number removed, which is not: its place in the list, and its handles.

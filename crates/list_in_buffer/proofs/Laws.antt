@@ -1,11 +1,11 @@
 -- A part that was lent and given back, and a word that was stored, are both a Put; a word of a part is a word of the buffer.
-use mathlib.Core.Path.{◌≡◌, refl, sym, ◌∙◌, ap, subst}
-use mathlib.Core.Logic.{◌⊎◌, inl, inr, ◌≢◌, ⊎_elim}
+use mathlib.Core.Path.{◌≡◌, sym, ◌∙◌, ap, subst}
+use mathlib.Core.Logic.{⊎_elim}
 use Prim.Native.Nat.{ℕ, ◌+◌, ◌-◌, ◌≤◌, ◌<◌}
 use native.Mathlib.Omega.{arith}
-use mathlib.Core.List.{List, [], ◌∷◌, ◌++◌}
-use lib.ListN.{length, get_or, set, take, drop, length-take, length-drop, length-set}
-use lib.Seq.{get_or-take, get_or-drop, length-take-le, drop-set-add, take-set-lt, take-set-le, drop-set-lt, set_out, ext_get_or, get_or-set_other}
+use mathlib.Core.List.{List}
+use lib.ListN.{length, get_or, set, take, drop, length-drop, length-set}
+use lib.Seq.{get_or-take, get_or-drop, length-take-le, drop-set-add, take-set-lt, ext_get_or, get_or-set_other}
 use borrow.Rule.Slice.PartMut.{put_mid}
 use Rattle.list_in_buffer.specs.Part.{part, Put}
 use Rattle.list_in_buffer.proofs.Mid.{mid-same, mid-other, length-put}

@@ -78,6 +78,7 @@ fn hang(parent: &mut [u32], size: &mut [u32], small: u32, large: u32, members: u
 
 // Joins the trees of a and b, the smaller under the larger, b's under a's where they are equal. Says whether they were apart.
 // Where it has to walk, it hangs a and b under their roots, so that later walks are short.
+#[inline(always)]
 pub fn join(parent: &mut [u32], size: &mut [u32], a: u32, b: u32) -> bool
     requires { JoinReady parent.old size.old a b }
     ensures { JoinDone (length parent.old) (at parent.old) (at parent.new) (at size.new) a b result }

@@ -57,6 +57,7 @@ fn node_of(t: &[u32], z: Sizes, i: u32, h: Handle) -> Option<u32>
 }
 
 // The link whose two handles are the four words at j of the table w: where both ends are members of i, their places are joined. Says whether they were apart.
+#[inline(always)]
 fn join_link(
     t: &[u32],
     z: Sizes,
@@ -81,6 +82,8 @@ fn join_link(
 }
 
 // Every link of this kind of the island i, from the last to the first. Gives the number of joins that did something.
+// It is put in place for each of the two kinds: where the tables are known, no read asks where its table begins.
+#[inline(always)]
 fn join_links(
     t: &[u32],
     z: Sizes,

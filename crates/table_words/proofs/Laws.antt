@@ -1,5 +1,5 @@
 -- A table by its name is the part of the buffer where it lies.
-use mathlib.Core.Path.{◌≡◌, refl, sym, ◌∙◌, ap, subst}
+use mathlib.Core.Path.{◌≡◌, sym, ◌∙◌, ap, subst}
 use mathlib.Core.List.{List}
 use Prim.Native.Nat.{ℕ, ◌+◌, ◌*◌, ◌≤◌, ◌<◌}
 use native.Mathlib.Omega.{arith}
@@ -10,7 +10,7 @@ use Rattle.list_in_buffer.specs.Part.{part, Put}
 use Rattle.list_in_buffer.proofs.Laws.{length_part}
 use Rattle.def_kinds.specs.declared.Sizes.{Sizes}
 use Rattle.table_meaning.specs.declared.Table.{Table}
-use Rattle.table_meaning.specs.Layout.{Tables, tables, total, table_at, table_span, table_of, room, list_room, chain_in}
+use Rattle.table_meaning.specs.Layout.{tables, total, table_at, table_span, table_of, room, list_room, chain_in}
 use Rattle.table_meaning.proofs.Puts.{inside, part-is, chain-long}
 
 module _ (Z : Sizes) (k : Table) (t : List ℕ) {a n : ℕ} (p : a ≡ table_at Z k) (q : n ≡ table_span Z k) where

@@ -11,6 +11,7 @@ ghost use Rattle.table_meaning.specs.Keys.{key_in};
 ghost use Rattle.table_meaning.specs.Layout.{tables, total, table_at, table_span, table_of, room, list_room, chain_in};
 
 use def_kinds::{Handle, Sizes, Slot};
+use list_in_buffer::Part;
 use table_meaning::{KeyWords, Table, word};
 
 // How many words a buffer for these sizes has.
@@ -105,15 +106,25 @@ pub fn ends_at(z: Sizes, k: Table) -> usize
     }
 }
 
+// Where a table lies.
+#[inline]
+pub fn part_of(z: Sizes, k: Table) -> Part
+    ensures { (result.at ≡ table_at z k) × (result.long ≡ table_span z k) }
+{
+    Part {
+        at: table_at(z, k),
+        long: table_long(z, k),
+    }
+}
+
 // A word of a table.
 #[inline]
 pub fn get(t: &[u32], z: Sizes, k: Table, j: usize) -> u32
     requires { (length t.now ≡ total z) × (j < table_span z k) }
     ensures { (result ≡ get_or (table_of k (tables z t.now)) j 0) × (result ≤ 4294967295) }
 {
-    let a = table_at(z, k);
-    let n = table_long(z, k);
-    list_in_buffer::get_in(t, a, n, j)
+    let p = part_of(z, k);
+    list_in_buffer::get_in(t, p, j)
 }
 
 // The handle in the two words from j on.
@@ -152,9 +163,8 @@ pub fn set(t: &mut [u32], z: Sizes, k: Table, j: usize, v: u32)
     requires { (length t.old ≡ total z) × (j < table_span z k) }
     ensures { Put (table_at z k) (table_span z k) t.old t.new (set (table_of k (tables z t.old)) j v) }
 {
-    let a = table_at(z, k);
-    let n = table_long(z, k);
-    list_in_buffer::set_in(t, a, n, j, v);
+    let p = part_of(z, k);
+    list_in_buffer::set_in(t, p, j, v);
 }
 
 // The words from j on become those of `words`.
@@ -176,9 +186,8 @@ pub fn home(t: &[u32], z: Sizes, k: Table, e: u32) -> u32
     requires { (length t.now ≡ total z) × (e < room z k) }
     ensures { (result ≡ (chain_in z k (tables z t.now)).home e) × (result ≤ 4294967295) }
 {
-    let a = table_at(z, k);
-    let n = table_long(z, k);
-    list_in_buffer::get_in(t, a, n, 4 * (e as usize))
+    let p = part_of(z, k);
+    list_in_buffer::get_in(t, p, 4 * (e as usize))
 }
 
 #[inline]
@@ -186,10 +195,9 @@ pub fn count(t: &[u32], z: Sizes, k: Table, i: u32) -> u32
     requires { (length t.now ≡ total z) × (i < list_room z k) }
     ensures { (result ≡ (chain_in z k (tables z t.now)).count i) × (result ≤ 4294967295) }
 {
-    let a = table_at(z, k);
-    let n = table_long(z, k);
+    let p = part_of(z, k);
     let b = ends_at(z, k);
-    list_in_buffer::get_in(t, a, n, b + 2 * (i as usize))
+    list_in_buffer::get_in(t, p, b + 2 * (i as usize))
 }
 
 #[inline]
@@ -197,10 +205,9 @@ pub fn last(t: &[u32], z: Sizes, k: Table, i: u32) -> u32
     requires { (length t.now ≡ total z) × (i < list_room z k) }
     ensures { (result ≡ (chain_in z k (tables z t.now)).last i) × (result ≤ 4294967295) }
 {
-    let a = table_at(z, k);
-    let n = table_long(z, k);
+    let p = part_of(z, k);
     let b = ends_at(z, k);
-    list_in_buffer::get_in(t, a, n, b + 2 * (i as usize) + 1)
+    list_in_buffer::get_in(t, p, b + 2 * (i as usize) + 1)
 }
 
 // The element e, which is in no list, is put last in the list i.
@@ -209,10 +216,9 @@ pub fn push(t: &mut [u32], z: Sizes, k: Table, i: u32, e: u32)
     requires { (length t.old ≡ total z) × PushReady (table_of k (tables z t.old)) 0 (4 * room z k) i e }
     ensures { Put (table_at z k) (table_span z k) t.old t.new (pushed (table_of k (tables z t.old)) 0 (4 * room z k) i e) }
 {
-    let a = table_at(z, k);
-    let n = table_long(z, k);
+    let p = part_of(z, k);
     let b = ends_at(z, k);
-    list_in_buffer::push_in(t, a, n, b, i, e);
+    list_in_buffer::push_in(t, p, b, i, e);
 }
 
 // The element e is taken out of its list, whose last element takes its place.
@@ -221,10 +227,9 @@ pub fn remove(t: &mut [u32], z: Sizes, k: Table, e: u32)
     requires { (length t.old ≡ total z) × RemoveReady (table_of k (tables z t.old)) 0 (4 * room z k) e }
     ensures { Put (table_at z k) (table_span z k) t.old t.new (removed (table_of k (tables z t.old)) 0 (4 * room z k) e) }
 {
-    let a = table_at(z, k);
-    let n = table_long(z, k);
+    let p = part_of(z, k);
     let b = ends_at(z, k);
-    list_in_buffer::remove_in(t, a, n, b, e);
+    list_in_buffer::remove_in(t, p, b, e);
 }
 
 // The list small is put behind the list big, and is empty then. The work is that of small.
@@ -232,10 +237,9 @@ pub fn splice(t: &mut [u32], z: Sizes, k: Table, big: u32, small: u32)
     requires { (length t.old ≡ total z) × SpliceReady (table_of k (tables z t.old)) 0 (4 * room z k) big small }
     ensures { Put (table_at z k) (table_span z k) t.old t.new (spliced (table_of k (tables z t.old)) 0 (4 * room z k) big small) }
 {
-    let a = table_at(z, k);
-    let n = table_long(z, k);
+    let p = part_of(z, k);
     let b = ends_at(z, k);
-    list_in_buffer::splice_in(t, a, n, b, big, small);
+    list_in_buffer::splice_in(t, p, b, big, small);
 }
 
 // Do the rules of a chain table hold of its first n elements and m lists?
@@ -243,8 +247,7 @@ pub fn chains_hold(t: &[u32], z: Sizes, k: Table, n: u32, m: u32) -> bool
     requires { (length t.now ≡ total z) × (n ≤ room z k) × (m ≤ list_room z k) }
     ensures { Is result (Wf (table_of k (tables z t.now)) 0 (4 * room z k) n m) }
 {
-    let a = table_at(z, k);
-    let w = table_long(z, k);
+    let p = part_of(z, k);
     let b = ends_at(z, k);
-    list_in_buffer::audit_in(t, a, w, b, n, m)
+    list_in_buffer::audit_in(t, p, b, n, m)
 }

@@ -2,4 +2,4 @@ use Rattle.table_words.proofs.Laws.{fits, part_at}
 use Rattle.table_words.proofs.remove.Goals as goal
 
 pub remove_in-requires : goal.remove_in-requires
-remove_in-requires c = (fits c.args.z c.args.k c.args.t.now c.table_at-a.ensures c.table_long-n.ensures c.requires.0, (rw (part_at c.args.z c.args.k c.args.t.now c.table_at-a.ensures c.table_long-n.ensures, c.ends_at-b.ensures) c.requires.1))
+remove_in-requires c = (fits c.args.z c.args.k c.args.t.now c.part_of-p.ensures.0 c.part_of-p.ensures.1 c.requires.0, (rw (part_at c.args.z c.args.k c.args.t.now c.part_of-p.ensures.0 c.part_of-p.ensures.1, c.ends_at-b.ensures) c.requires.1))

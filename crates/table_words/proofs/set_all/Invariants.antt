@@ -1,4 +1,4 @@
-use Rattle.std.specs.Prelude.{◌≡◌, List, ℕ, ◌≤◌, length, drop}
+use Rattle.std.specs.Prelude.{◌≡◌, length, drop}
 use Rattle.list_in_table.specs.Word.{writes, after, numbered}
 use Rattle.list_in_buffer.specs.Part.{Put}
 use Rattle.table_meaning.specs.Layout.{tables, total, table_at, table_span, table_of}

@@ -2,4 +2,4 @@ use Rattle.table_words.proofs.Laws.{fits, part_at}
 use Rattle.table_words.proofs.splice.Goals as goal
 
 pub splice_in-requires : goal.splice_in-requires
-splice_in-requires c = (fits c.args.z c.args.k c.args.t.now c.table_at-a.ensures c.table_long-n.ensures c.requires.0, (rw (part_at c.args.z c.args.k c.args.t.now c.table_at-a.ensures c.table_long-n.ensures, c.ends_at-b.ensures) c.requires.1))
+splice_in-requires c = (fits c.args.z c.args.k c.args.t.now c.part_of-p.ensures.0 c.part_of-p.ensures.1 c.requires.0, (rw (part_at c.args.z c.args.k c.args.t.now c.part_of-p.ensures.0 c.part_of-p.ensures.1, c.ends_at-b.ensures) c.requires.1))

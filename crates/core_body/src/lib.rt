@@ -21,6 +21,7 @@ pub fn is_named(t: &[u32], z: Sizes, h: Handle) -> bool
     ensures { result ≡ named (world_of z t.now) (handle h.slot.0 h.generation) }
 {
     let s = h.slot.0;
+    // The generation NONE names nothing: C gives it so, and no option.
     h.generation != NONE
         && s < table_words::get(t, z, Table::Head, word::SLOTS_USED)
         && table_words::get(t, z, Table::Slots, word::SLOT * (s as usize)) == h.generation
@@ -89,7 +90,7 @@ pub fn fill(t: &mut [u32], z: Sizes, h: Handle, lowest: u32, flags: Flags)
     );
 }
 
-// put, on sound tables.
+// put, on sound tables. NONE is a generation's word for none, in the tables and from C, so it is compared as a number.
 pub fn put_on(t: &mut [u32], z: Sizes, h: Handle, flags: Flags) -> Answer
     requires { Sound z t.old }
     ensures { Does z (put z (handle h.slot.0 h.generation) flags.fixed flags.enabled flags.sleeping) t.old result t.new }

@@ -25,6 +25,7 @@ pub fn body_island(t: &[u32], z: Sizes, h: Handle) -> Option<u32>
     if !core_body::is_named(t, z, h) {
         return None;
     }
+    // The tables, which C reads too, have NONE for no island.
     let i = table_words::home(t, z, Table::Members, h.slot.0);
     if i == NONE { None } else { Some(i) }
 }
@@ -124,6 +125,7 @@ pub fn unlink_contact_on(t: &mut [u32], z: Sizes, e: u32) -> Answer
     requires { Sound z t.old }
     ensures { Does z (unlink_contact z e) t.old result t.new }
 {
+    // The tables, which C reads too, have NONE for the home of an edge that is not linked.
     if e >= table_words::get(t, z, Table::Head, word::TRACKED)
         || table_words::home(t, z, Table::Contacts, e) == NONE
     {

@@ -19,6 +19,7 @@ pub fn may_join(t: &[u32], z: Sizes, h: Handle) -> bool
     requires { Sound z t.now }
     ensures { result ≡ may_join (world_of z t.now) (handle h.slot.0 h.generation) }
 {
+    // The tables, which C reads too, have NONE for no island.
     core_body::is_chainable(t, z, h) && table_words::home(t, z, Table::Members, h.slot.0) == NONE
 }
 

@@ -70,6 +70,7 @@ pub fn renumber_on(t: &mut [u32], z: Sizes, removed: u32, last: u32) -> Answer
     }
     // The last edge; last + 1 need not fit, and tracked is not 0 here.
     let last_edge = tracked - 1;
+    // The tables, which C reads too, have NONE for the home of an edge that is not linked.
     let home = table_words::home(t, z, Table::Contacts, removed);
     if home != NONE {
         return Err(Refusal::StillLinked);

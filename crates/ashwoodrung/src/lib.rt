@@ -18,7 +18,7 @@ ghost use Rattle.core_laws.specs.Steps.{handle};
 ghost use Rattle.def_state.specs.Split.{split_island_now, schedule_split, run_pending_split};
 ghost use Rattle.def_state.specs.Scan.{begin_sleep_scan, observe_body_for_sleep, mark_island_sleeping, wake_island};
 ghost use Rattle.host_calls.specs.Refusal.{may_bid};
-ghost use Rattle.ashwoodrung.specs.Told.{is_set, packed, island_word, Told, ToldReset, ToldIsland, ToldBid, ToldList};
+ghost use Rattle.ashwoodrung.specs.Told.{is_set, packed, island_word, island_told, bid_told, Told, ToldReset, ToldIsland, ToldBid, ToldList};
 
 use def_kinds::{Edge, Flags, Handle, Island, JointKey, NONE, Refusal, Slot, number};
 
@@ -44,6 +44,18 @@ fn island_word(island: Option<Island>) -> u32
     ensures { result ≡ island_word island }
 {
     island.map_or(NONE, |i| i.0)
+}
+
+fn tell_island(answer: Result<Option<Island>, Refusal>) -> u64
+    ensures { result ≡ packed (number (answer_of answer)) (island_told answer) }
+{
+    both(answer.map(island_word), NONE)
+}
+
+fn tell_bid(answer: Result<bool, Refusal>) -> u64
+    ensures { result ≡ packed (number (answer_of answer)) (bid_told answer) }
+{
+    both(answer.map(u32::from), 0)
 }
 
 fn flags_of(fixed: u32, enabled: u32, sleeping: u32) -> Flags
@@ -118,7 +130,7 @@ pub fn ashwoodrung_island(t: &[u32], slot: u32, generation: u32) -> u64
     ensures { ToldIsland (island_of (handle slot generation)) t.now result }
 {
     let h = Handle::new(Slot(slot), generation);
-    both(host_calls::island(t, h).map(island_word), NONE)
+    tell_island(host_calls::island(t, h))
 }
 
 pub fn ashwoodrung_contact(
@@ -230,7 +242,7 @@ pub fn ashwoodrung_run(t: &mut [u32]) -> u32
 pub fn ashwoodrung_may_bid(t: &[u32], island: u32) -> u64
     ensures { ToldBid (may_bid island) t.now result }
 {
-    both(host_calls::may_bid(t, Island(island)).map(u32::from), 0)
+    tell_bid(host_calls::may_bid(t, Island(island)))
 }
 
 pub fn ashwoodrung_begin(t: &mut [u32]) -> u32

@@ -1,13 +1,12 @@
 -- Whom a chain links by its words, and the turns of the loops of a chain refresh.
 use mathlib.Core.Path.{◌≡◌, refl, sym, ◌∙◌, ap, subst}
 use mathlib.Core.Logic.{◌≢◌, inr}
-use mathlib.Core.Bool.{Bool, true, false, not, ◌&&◌, cond, false≢true}
+use mathlib.Core.Bool.{Bool, true, false, not, cond, false≢true}
 use mathlib.Core.List.{List, [], ◌∷◌}
 use Prim.Native.Nat.{ℕ, zero, suc, ◌+◌, ◌-◌, ◌*◌, ◌≤◌, ◌<◌}
 use native.Mathlib.Omega.{arith}
 use borrow.Author.Tests.{eq-eqb, ne_eqb}
-use lib.Dec.{eqb}
-use lib.ListN.{length, get_or}
+use lib.ListN.{length}
 use Rattle.std.specs.declared.option.Option.{Option}
 use Rattle.std.specs.declared.option.Option.TheVariants.{None, Some}
 use Rattle.std.specs.List.{filter, range_with_len}
@@ -16,12 +15,12 @@ use Rattle.list_in_table.specs.Rules.{none}
 use Rattle.def_kinds.specs.Choice.{pick}
 use Rattle.def_kinds.specs.declared.Sizes.{Sizes}
 use Rattle.def_kinds.specs.Answers.{Answer, Done, JointsFull, JournalFull}
-use Rattle.def_state.specs.World.{Handle, Body, chain, World, body_of, named}
+use Rattle.def_state.specs.World.{Handle, chain, World}
 use Rattle.def_state.proofs.Absent.{top-named}
 use Rattle.def_state.specs.Links.{joint_room, link_joint, unlink_joint}
 use Rattle.def_state.specs.Chain.{chainable, chained, chain_length, old_length, unlinked, linked_all, refresh_multibody_chain}
 use Rattle.table_meaning.specs.Layout.{tables, extents}
-use Rattle.table_meaning.specs.Decode.{flag, handle_at, world_of}
+use Rattle.table_meaning.specs.Decode.{handle_at, world_of}
 use Rattle.table_meaning.specs.Sound.{Sound}
 use Rattle.table_meaning.specs.Does.{Does}
 use Rattle.table_meaning.proofs.Frame.{kept_then}
@@ -31,8 +30,6 @@ use Rattle.core_laws.specs.Places.{KeyAt, Unlinked}
 use Rattle.core_laws.specs.Chaining.{handles_from, Onward, CameBySteps, link_rest, LinkedOn}
 use Rattle.core_chain.specs.Linking.{present}
 use Rattle.core_laws.proofs.Then.{refused}
-use Rattle.core_laws.proofs.Names.{named_is}
-use Rattle.core_laws.proofs.Put.{body-word}
 use Rattle.core_laws.proofs.JointKeys.{joint-home_none, joint-home}
 use Rattle.core_laws.proofs.Chaining.{onward_then, larger-of, unlink-on, link_on, came-start, came-step, came-done, length-missing, length-linked, length-end, unlinked-step, unlinked-end, handles-more, chainable-same, chained-end, rest-first, rest-next, rest_end, rest-start, handles-length, refresh-long, refresh-full, refresh-journal, refresh-done}
 
@@ -123,9 +120,6 @@ module _ (Z : Sizes) (t₀ : List ℕ) (high low n : ℕ) where
     pub came : CameBySteps Z t₀ t (world_of Z t)
     pub left : unlinked Z high low o (n - o) (world_of Z t) ≡ unlinked Z high low 0 n (world_of Z t₀)
 
-  pub unlink-start : Sound Z t₀ → Unlinking t₀ 0
-  unlink-start S = record { came = came-start S; left = (let e : n - 0 ≡ n = omega arith in rw e) }
-
   module _ {t : List ℕ} (o : ℕ) (U : Unlinking t o) where
     pub unlink-turn : {t' : List ℕ} {r : Answer} → o < n → Does Z (unlink_joint Z (chain high low o)) t r t' → Unlinking t' (o + 1)
     unlink-turn {t'} l D =
@@ -139,9 +133,6 @@ module _ (Z : Sizes) (t₀ : List ℕ) (high low n : ℕ) where
 
 -- ---- the linking of a handle
 module _ {Z : Sizes} {t : List ℕ} (high low : ℕ) (has : Bool) (o : ℕ) (p h : Handle) (S : Sound Z t) where
-  pub link-skip : chainable (world_of Z t) h ≡ false → LinkedOn Z high low has o p h has o p t t
-  link-skip e = record { came = came-start S; rest = λ hs. rw e; ordinal_le = omega arith }
-
   module _ (e : chainable (world_of Z t) h ≡ true) where
     pub link-first : has ≡ false → LinkedOn Z high low has o p h true 0 h t t
     link-first f = record { came = came-start S; rest = λ hs. rw (e, f) (sym (rest-first Z high low o p h hs (world_of Z t))); ordinal_le = omega arith }

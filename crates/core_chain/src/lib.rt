@@ -20,7 +20,8 @@ fn old_length(t: &[u32], z: Sizes, multibody: u64) -> u32
     ensures { (result ≡ old_length z (world_of z t.now) (multibody / 4294967296) (multibody % 4294967296)) × (result ≤ z.joints) }
 {
     let mut ordinal: u32 = 0;
-    // The walk stops at the first absent key, and after as many turns as there are joint links at most.
+    // The walk stops at the first absent key, and after as many turns as there are joint links at most. It stays a `loop`: that the old length
+    // comes by `break` is one of the project's own forms.
     loop {
         if ordinal >= z.joints {
             break ordinal;
@@ -79,7 +80,7 @@ fn link_next(t: &mut [u32], z: Sizes, multibody: u64, linking: Linking, next: Ha
         return linking;
     }
     let Linking { last, ordinal } = linking;
-    // The absent handle: no body was linked yet.
+    // The absent handle, which is the project's form of no body yet: no body was linked.
     if last.generation == NONE {
         return Linking {
             last: next,

@@ -76,10 +76,10 @@ module _ {Z : Sizes} {t : List ℕ} (out : List ℕ) (s : Scan) (S : Sound Z t) 
     pub finish-short : length out < n → Finishes Z t out TooShort 0 t out
     finish-short l = unlisted out TooShort S (short-is (length out) (world_of Z t) (sym (open_is s I) ∙ o) (subst (λ (k : ℕ). length out < k) q l))
 
-    pub finish-done : {t1 t2 out' : List ℕ} (s' : Scan) → n ≤ length out → out' ≡ restful Z t ++ drop (length (restful Z t)) out → Forgotten Z t t1 → (s'.stamp ≡ s.stamp) → (s'.open ≡ false)
-        → Steps Z (stamped s'.stamp s'.open) t1 t2 → Finishes Z t out Done n t2 out'
+    pub finish-done : {t1 t2 front : List ℕ} (s' : Scan) → n ≤ length out → front ≡ restful Z t → Forgotten Z t t1 → (s'.stamp ≡ s.stamp) → (s'.open ≡ false)
+        → Steps Z (stamped s'.stamp s'.open) t1 t2 → Finishes Z t out Done n t2 (front ++ drop n out)
     unfolding forget stamped
-    finish-done {t1} {t2} {out'} s' l e A p c B =
+    finish-done {t1} {t2} {front} s' l e A p c B =
         let w = world_of Z t in
         let f = done-is (length out) w (sym (open_is s I) ∙ o) (subst (λ (k : ℕ). k ≤ length out) q l) in
         let g : listed_of (length out) w ≡ restful Z t = ap (λ (x : Listing). x.listed) f in
@@ -89,5 +89,5 @@ module _ {Z : Sizes} {t : List ℕ} (out : List ℕ) (s : Scan) (S : Sound Z t) 
               (ap (λ (k : ℕ). done (scan_set w k s'.open [])) (p ∙ stamp_is s I) ∙ ap (λ (b : Bool). done (scan_set w w.sleep_scan_stamp b [])) c ∙ sym (finished-is (length out) w _ f))
               (does-then forget (stamped s'.stamp s'.open) B.larger A.steps.does B.does);
           length_is = q ∙ sym (ap length g);
-          out_is = e ∙ sym (ap (λ (x : List ℕ). x ++ drop (length x) out) g);
+          out_is = ap (λ (x : List ℕ). x ++ drop n out) e ∙ ap (λ (k : ℕ). restful Z t ++ drop k out) q ∙ sym (ap (λ (x : List ℕ). x ++ drop (length x) out) g);
         }

@@ -207,8 +207,17 @@ written-more {Z} {t} {out₀} {out} {out'} {k} {e} {j} j' S W d D = go (sleepabl
           behind = ap (λ (x : List ℕ). r ++ drop j' x) y.1 ∙ ap (λ (i : ℕ). r ++ drop i out) y.0 ∙ ap (λ (x : List ℕ). x ++ drop j out) (sym q) ∙ W.behind;
         }
 
-pub written_all : {Z : Sizes} {t out₀ out : List ℕ} {k e j : ℕ} → k ≡ 0 → Written Z t out₀ k e j out → out ≡ restful Z t ++ drop (length (restful Z t)) out₀
+written_all : {Z : Sizes} {t out₀ out : List ℕ} {k e j : ℕ} → k ≡ 0 → Written Z t out₀ k e j out → out ≡ restful Z t ++ drop (length (restful Z t)) out₀
 written_all {Z} {t} {out₀} {out} {k} {e} {j} z W =
     let a : restful_to Z t k e ≡ [] = ap (λ (n : ℕ). restful_to Z t n e) z ∙ restful-none Z t e in
     let b : j ≡ 0 = W.place ∙ ap length a in
     sym (ap (λ (x : List ℕ). x ++ drop j out) a ∙ ap (λ (i : ℕ). drop i out) b) ∙ W.behind
+
+drop-whole : (x : List ℕ) (n : ℕ) → length x ≡ n → drop n x ≡ []
+drop-whole [] n e = let z : n ≡ 0 = sym e in rw z
+drop-whole (y ∷ x) zero e = absurd (omega arith)
+drop-whole (y ∷ x) (suc n) e = drop-whole x n (omega arith)
+
+-- an output that has room for just these
+pub written_whole : {Z : Sizes} {t out₀ out : List ℕ} {k e j : ℕ} → k ≡ 0 → length out₀ ≡ length (restful Z t) → Written Z t out₀ k e j out → out ≡ restful Z t
+written_whole {Z} {t} {out₀} {out} z q W = written_all z W ∙ ap (λ (x : List ℕ). restful Z t ++ x) (drop-whole out₀ (length (restful Z t)) q) ∙ append-nil (restful Z t)

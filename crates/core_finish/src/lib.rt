@@ -1,7 +1,7 @@
 // Finish: which of the observed islands may sleep, written to an output that the host lends, and the scan closes; on sound tables.
 #![tactic(auto)]
 
-ghost use Rattle.std.specs.Prelude.{◌≡◌, true, ◌++◌, ◌<◌, ◌≤◌, length, drop};
+ghost use Rattle.std.specs.Prelude.{◌≡◌, true, ◌<◌, ◌≤◌, length};
 ghost use Rattle.std.specs.Result.{result_unwrap_or};
 ghost use Rattle.def_kinds.specs.Answers.{answer_of};
 ghost use Rattle.def_state.specs.Scan.{sleepable};
@@ -62,14 +62,14 @@ fn write_one(t: &[u32], z: Sizes, out: &mut [u32], e: u32, k: usize) -> usize
     }
 }
 
-// The islands that may sleep, written to the front of out, from the last to the first. There are n of them.
-fn write_restful(t: &[u32], z: Sizes, out: &mut [u32], n: u32)
-    requires { Sound z t.now × (n ≡ length (restful z t.now)) × (n ≤ length out.old) }
-    ensures { out.new ≡ restful z t.now ++ drop (length (restful z t.now)) out.old }
+// The islands that may sleep, of which there are as many as out has words, written to it from the last to the first.
+fn write_restful(t: &[u32], z: Sizes, out: &mut [u32])
+    requires { Sound z t.now × (length out.old ≡ length (restful z t.now)) }
+    ensures { out.new ≡ restful z t.now }
 {
     let waiting = table_words::count(t, z, Table::Scan, 0);
     let mut island = table_words::last(t, z, Table::Scan, 0);
-    let mut front = n as usize;
+    let mut front = out.len();
     // One turn for each island in the scan's list, from the last to the first: at most as many as there are islands.
     for _ in 0..waiting {
         front = write_one(t, z, out, island, front);
@@ -95,7 +95,7 @@ pub fn finish_on(t: &mut [u32], z: Sizes, out: &mut [u32]) -> Result<u32, Refusa
     if (n as usize) > out.len() {
         return Err(Refusal::TooShort);
     }
-    write_restful(t, z, out, n);
+    write_restful(t, z, &mut out[..n as usize]);
     core_scan::clear_scan(t, z);
     core_scan::keep_scan(t, z, scan.close());
     Ok(n)

@@ -25,6 +25,7 @@ fn is_keyed(t: &[u32], z: Sizes, p: u32, key: KeyWords) -> bool
     requires { (length t.now ≡ total z) × (p < z.joints) }
     ensures { Is result (LinkedAs z (tables z t.now) key.kind key.first key.second key.third p) }
 {
+    // The home is a word of the tables, where NONE is no list.
     table_words::key_at(t, z, p) == key && table_words::home(t, z, Table::Joints, p) != NONE
 }
 

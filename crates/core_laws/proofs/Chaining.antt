@@ -215,21 +215,6 @@ pub chainable-same : (u w : World) (h : Handle) → u.bodies ≡ w.bodies → ch
 unfolding chainable named
 chainable-same u w h e = rw e
 
-module _ (w : World) (x : List ℕ) (k n : ℕ) (l : k < n) where
-  abbrev h : Handle
-  h = handle_at x (2 * k)
-
-  abbrev rest : List Handle
-  rest = handles_from x (k + 1) (n - (k + 1))
-
-  pub chained-yes : chainable w h ≡ true → chained w (handles_from x k (n - k)) ≡ h ∷ chained w rest
-  unfolding chained
-  chained-yes e = ap (chained w) (handles-more x k n l) ∙ rw e
-
-  pub chained-no : chainable w h ≡ false → chained w (handles_from x k (n - k)) ≡ chained w rest
-  unfolding chained
-  chained-no e = ap (chained w) (handles-more x k n l) ∙ rw e
-
 pub chained-end : (w : World) (x : List ℕ) (k n : ℕ) → n ≤ k → chained w (handles_from x k (n - k)) ≡ []
 unfolding chained
 chained-end w x k n l = ap (chained w) (handles-end x k n l)

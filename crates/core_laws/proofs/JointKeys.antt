@@ -214,9 +214,6 @@ module _ {Z : Sizes} {t : List ℕ} (kind a b c : ℕ) (S : Sound Z t) (K : KeyR
     unfolding world_of
     joint-link = link_at Z (extents (tables Z t)) (tables Z t) (good-loose S.good) p A.place_lt A.keyed.linked
 
-    pub joint-home_lt : (joints_in Z (tables Z t)).home p < (extents (tables Z t)).islands
-    joint-home_lt = il Z (extents (tables Z t)) (tables Z t) (good-loose S.good) p A.place_lt A.keyed.linked
-
   -- the home in the state says which of the two it is
   pub home-unlinked : joint_home (world_of Z t) (key_of kind a b c) ≡ top → Unlinked Z (tables Z t) kind a b c
   home-unlinked e p l k =

@@ -16,16 +16,3 @@ key-ruled (Chain m o) = inr refl
 pub words-key : (k : JointKey) → key_of (words_of k).kind (words_of k).first (words_of k).second (words_of k).third ≡ key_is k
 words-key (Impulse i g) = refl
 words-key (Chain m o) = refl
-
-module _ (keys : List ℕ) (p : ℕ) (k : KeyWords) where
-  pub key-there : key_in keys p ≡ k → HasKey keys p k.kind k.first k.second k.third
-  key-there e =
-      record {
-        kind_is = ap (λ (x : KeyWords). x.kind) e;
-        a_is = ap (λ (x : KeyWords). x.first) e;
-        b_is = ap (λ (x : KeyWords). x.second) e;
-        c_is = ap (λ (x : KeyWords). x.third) e;
-      }
-
-  pub there-key : HasKey keys p k.kind k.first k.second k.third → key_in keys p ≡ k
-  there-key h = rw (h.kind_is, h.a_is, h.b_is, h.c_is) refl

@@ -66,11 +66,7 @@ module _ (Z : Sizes) (e i p : ℕ) (l : ContactLink) (w : World) where
       unfolding outcome journal_refuses journal_removal journalled
       unlink-other h = unlink-some ∙ rw (s, lt-leb Z.journal (length w.removal_journal) h)
 
--- the words of a link
-pub link-words : (x : List ℕ) (e a b c d : ℕ) → a ≡ get_or x (4 * e) 0 → b ≡ get_or x (4 * e + 1) 0 → c ≡ get_or x (4 * e + 2) 0 → d ≡ get_or x (4 * e + 3) 0 → contact_at x e ≡ contact_of e a b c d
-link-words x e a b c d p q r s = let k : 4 * e + 2 + 1 ≡ 4 * e + 3 = omega arith in contact-is (sym p) (sym q) (sym r) (ap (λ (j : ℕ). get_or x j 0) k ∙ sym s)
-
--- the same, read as two handles
+-- the words of a link, read as two handles
 pub link-handles : (x : List ℕ) (e a b c d : ℕ) → (a ≡ get_or x (4 * e) 0) × (b ≡ get_or x (4 * e + 1) 0) → (c ≡ get_or x (4 * e + 2) 0) × (d ≡ get_or x (4 * e + 2 + 1) 0) → contact_at x e ≡ contact_of e a b c d
 link-handles x e a b c d p q = contact-is (sym p.0) (sym p.1) (sym q.0) (sym q.1)
 

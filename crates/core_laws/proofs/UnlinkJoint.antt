@@ -24,19 +24,6 @@ use Rattle.core_laws.specs.Places.{KeyRule, KeyAt, Unlinked, JointTaken}
 use Rattle.core_laws.proofs.Then.{refused, does-as, does-then}
 use Rattle.core_laws.proofs.JointKeys.{joint-home_none, joint-home, joint-place, joint-link}
 
--- ---- equal handles
-pub ends_same : {a b c d : ℕ} → a ≡ c → b ≡ d → same_handle (handle a b) (handle c d) ≡ true
-unfolding same_handle
-ends_same {a} {b} {c} {d} p q = rw (eq-eqb a c p, eq-eqb b d q)
-
-pub ends-slot : (a b c d : ℕ) → a ≢ c → same_handle (handle a b) (handle c d) ≡ false
-unfolding same_handle
-ends-slot a b c d p = rw (ne_eqb a c p)
-
-pub ends-generation : {a b c d : ℕ} → a ≡ c → b ≢ d → same_handle (handle a b) (handle c d) ≡ false
-unfolding same_handle
-ends-generation {a} {b} {c} {d} p q = rw (eq-eqb a c p, ne_eqb b d q)
-
 -- ---- a link that is there
 module _ (Z : Sizes) (q : Key) (w : World) where
   pub unlink-nothing : joint_home w q ≡ top → unlink_joint Z q w ≡ gives Nothing w

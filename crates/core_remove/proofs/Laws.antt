@@ -31,6 +31,7 @@ use Rattle.table_meaning.proofs.Frame.{larger-refl, larger-then}
 use Rattle.table_meaning.proofs.Unique.{islands-is}
 use Rattle.core_laws.specs.Steps.{handle, row_words, leave, leave_last}
 use Rattle.core_laws.specs.Drops.{Cleared, JointsCleared}
+use Rattle.core_remove.specs.Housed.{Housed}
 use Rattle.core_laws.specs.Leaves.{freeing, BodyLeft, Unpended, Removes}
 use Rattle.core_laws.proofs.Then.{refused, does-as}
 use Rattle.core_laws.proofs.Names.{named_is, island-at, home_is}
@@ -115,14 +116,15 @@ module _ {Z : Sizes} {t t1 t2 : List ℕ} {i : ℕ} (A : Cleared Z i t t1) (B : 
   same-members = B.stays.members ∙ A.stays.members
 
   -- what leave_last asks
-  pub linkless : (s : ℕ) → s < (extents (tables Z t)).slots → (members_in Z (tables Z t)).home s ≡ i → i ≢ none → (members_in Z (tables Z t)).count i ≡ 1
-      → Sound Z t2 × (s < (extents (tables Z t2)).slots) × ((members_in Z (tables Z t2)).home s ≡ i) × (i ≢ none) × ((members_in Z (tables Z t2)).count i ≡ 1)
-      × ((contacts_in Z (tables Z t2)).count i ≡ 0) × ((joints_in Z (tables Z t2)).count i ≡ 0)
-  linkless s sl hi d c = (
+  pub linkless : (s : ℕ) → Housed Z s i t → (members_in Z (tables Z t)).count i ≡ 1
+      → Sound Z t2 × Housed Z s i t2 × ((members_in Z (tables Z t2)).count i ≡ 1) × ((contacts_in Z (tables Z t2)).count i ≡ 0) × ((joints_in Z (tables Z t2)).count i ≡ 0)
+  linkless s H c = (
     B.steps.does.sound,
-    (let e = ap (λ (X : Extents). X.slots) same-extents in omega arith),
-    ap (λ (x : List ℕ). (view x 0 (4 * Z.slots)).home s) same-members ∙ hi,
-    d,
+    record {
+      slot_lt = (let h = H.slot_lt in let e = ap (λ (X : Extents). X.slots) same-extents in omega arith);
+      home_is = ap (λ (x : List ℕ). (view x 0 (4 * Z.slots)).home s) same-members ∙ H.home_is;
+      some = H.some;
+    },
     ap (λ (x : List ℕ). (view x 0 (4 * Z.slots)).count i) same-members ∙ c,
     ap (λ (x : List ℕ). (view x 0 (4 * Z.edges)).count i) B.contacts.contacts ∙ A.none,
     B.none,
@@ -203,24 +205,21 @@ module _ {Z : Sizes} {t : List ℕ} (s g : ℕ) (S : Sound Z t) where
         go false n = absurd (d (e ∙ island-unnamed s g (world_of Z t) n))
         go true n = n
 
-    pub slot_in : s < (extents (tables Z t)).slots
-    slot_in = (named_is Z t s g is_named).slot_lt
-
-    pub home-i : (members_in Z (tables Z t)).home s ≡ i
-    home-i = sym (island-named s g S is_named) ∙ sym e
+    pub housed : Housed Z s i t
+    housed = record { slot_lt = (named_is Z t s g is_named).slot_lt; home_is = sym (island-named s g S is_named) ∙ sym e; some = d }
 
     -- room for the island's number, and a body in it
     pub island_in : i < Z.islands
-    island_in = let h = home_lt s i S slot_in home-i d in let m = S.good.islands_le in omega arith
+    island_in = let h = home_lt s i S housed.slot_lt housed.home_is d in let m = S.good.islands_le in omega arith
 
     pub peopled : 0 < (members_in Z (tables Z t)).count i
-    peopled = some-body s i S slot_in home-i d
+    peopled = some-body s i S housed.slot_lt housed.home_is d
 
     pub left-alone : {t' : List ℕ} → (members_in Z (tables Z t)).count i ≡ 1 → BodyLeft Z (freeing i) s t t' → Removes Z s g t Done t'
-    left-alone c L = removed-only s g S is_named slot_in i home-i d c L
+    left-alone c L = removed-only s g S is_named housed.slot_lt i housed.home_is d c L
 
     pub left-others : {t' : List ℕ} → 1 < (members_in Z (tables Z t)).count i → BodyLeft Z (leave s i) s t t' → Removes Z s g t Done t'
-    left-others c L = removed-some s g S is_named slot_in i home-i d c L
+    left-others c L = removed-some s g S is_named housed.slot_lt i housed.home_is d c L
 
 -- ---- island_on: the island of a body, as `body_island` tells it, by its number
 pub told : {P : ℕ → IslandNumber → Type 0} (w : World) (s g : ℕ) (b : Option ℕ) (r : Option IslandNumber) → MatchOption b (body_island w (handle s g) ≡ none) (λ i. (i ≡ body_island w (handle s g)) × (i ≢ none))

@@ -1,8 +1,7 @@
 // Remove and retire on sound tables, with the links that an emptied island drops; and a body's island.
 #![tactic(auto)]
 
-ghost use Rattle.std.specs.Prelude.{◌≡◌, ◌≢◌, ◌+◌, ◌*◌, ◌<◌};
-ghost use Rattle.list_in_table.specs.Rules.{none};
+ghost use Rattle.std.specs.Prelude.{◌≡◌, ◌+◌, ◌*◌, ◌<◌};
 ghost use Rattle.def_state.specs.Bodies.{retire, island};
 ghost use Rattle.def_state.specs.Membership.{remove};
 ghost use Rattle.table_meaning.specs.Layout.{tables, extents, members_in, contacts_in, joints_in};
@@ -12,6 +11,7 @@ ghost use Rattle.table_meaning.specs.Does.{Does};
 ghost use Rattle.core_laws.specs.Steps.{handle, leave, leave_last};
 ghost use Rattle.core_laws.specs.Drops.{Dropped, Cleared, JointDropped, JointsCleared};
 ghost use Rattle.core_laws.specs.Leaves.{freeing, BodyLeft, Removes};
+ghost use Rattle.core_remove.specs.Housed.{Housed};
 
 use def_kinds::{Answer, Handle, Island, NONE, Outcome, Refusal, Sizes};
 use table_meaning::{Table, word};
@@ -78,7 +78,7 @@ pub fn drop_joints(t: &mut [u32], z: Sizes, i: u32)
 
 // The body in slot s leaves the island i, in which others stay.
 pub fn leave_some(t: &mut [u32], z: Sizes, s: u32, i: u32)
-    requires { Sound z t.old × (s < (extents (tables z t.old)).slots) × ((members_in z (tables z t.old)).home s ≡ i) × (i ≢ none) × (1 < (members_in z (tables z t.old)).count i) }
+    requires { Sound z t.old × Housed z s i t.old × (1 < (members_in z (tables z t.old)).count i) }
     ensures { BodyLeft z (leave s i) s t.old t.new }
 {
     table_words::remove(t, z, Table::Members, s);
@@ -89,7 +89,7 @@ pub fn leave_some(t: &mut [u32], z: Sizes, s: u32, i: u32)
 
 // The island i, with the body in slot s alone and no link, is freed.
 pub fn leave_last(t: &mut [u32], z: Sizes, s: u32, i: u32)
-    requires { Sound z t.old × (s < (extents (tables z t.old)).slots) × ((members_in z (tables z t.old)).home s ≡ i) × (i ≢ none) × ((members_in z (tables z t.old)).count i ≡ 1) × ((contacts_in z (tables z t.old)).count i ≡ 0) × ((joints_in z (tables z t.old)).count i ≡ 0) }
+    requires { Sound z t.old × Housed z s i t.old × ((members_in z (tables z t.old)).count i ≡ 1) × ((contacts_in z (tables z t.old)).count i ≡ 0) × ((joints_in z (tables z t.old)).count i ≡ 0) }
     ensures { BodyLeft z (leave_last i) s t.old t.new }
 {
     table_words::remove(t, z, Table::Members, s);
@@ -99,7 +99,7 @@ pub fn leave_last(t: &mut [u32], z: Sizes, s: u32, i: u32)
 
 // The island i, whose only body is in slot s, drops its links and is freed.
 fn remove_only(t: &mut [u32], z: Sizes, s: u32, i: u32)
-    requires { Sound z t.old × (s < (extents (tables z t.old)).slots) × ((members_in z (tables z t.old)).home s ≡ i) × (i ≢ none) × ((members_in z (tables z t.old)).count i ≡ 1) }
+    requires { Sound z t.old × Housed z s i t.old × ((members_in z (tables z t.old)).count i ≡ 1) }
     ensures { BodyLeft z (freeing i) s t.old t.new }
 {
     drop_contacts(t, z, i);

@@ -113,7 +113,3 @@ begun {Z} {t} {t1} {t2} s s' A I p q B =
     let D : Does Z (stamped s'.stamp true) t1 Done t2 = rw q at B.does in
     does-as (λ v. stamped s'.stamp true (forget v).after) begin_sleep_scan (begun-is w s'.stamp n)
     (does-then forget (stamped s'.stamp true) B.larger A.steps.does D)
-
--- what keep_scan asks of a scan that has no list
-pub empty-fitting : {Z : Sizes} {t t1 : List ℕ} (s : Scan) → Forgotten Z t t1 → s.waiting ≡ 0 → Fitting Z t1 s
-empty-fitting s A w = record { sound = A.steps.does.sound; waiting = w ∙ sym A.none_left; closed = λ c. w }

@@ -9,7 +9,7 @@ use borrow.Author.Tests.{eq-eqb, ne_eqb}
 use lib.ListN.{length, get_or, set}
 use lib.Seq.{get_or-set_same, get_or-set_other}
 use Rattle.list_in_table.specs.Rules.{none, Rules, list_of}
-use Rattle.list_in_table.specs.Table.{view, pushed, PushReady}
+use Rattle.list_in_table.specs.Table.{view, pushed}
 use Rattle.list_in_table.proofs.Laws.{either, held}
 use Rattle.list_in_table.proofs.Order.{length-list, list_at, list-of}
 use Rattle.list_in_table.proofs.Pigeon.{count-lt}
@@ -25,7 +25,7 @@ use Rattle.table_meaning.specs.Decode.{bit_of, flag, observed_at, world_of}
 use Rattle.table_meaning.specs.Sound.{Sound}
 use Rattle.table_meaning.specs.Does.{Does}
 use Rattle.table_meaning.proofs.Puts.{sized, put-scan, put_fit}
-use Rattle.table_meaning.proofs.Chains.{Added, added, push_ready, chain-refl}
+use Rattle.table_meaning.proofs.Chains.{Added, added, chain-refl}
 use Rattle.table_meaning.proofs.Frame.{larger-then}
 use Rattle.core_laws.specs.Steps.{Steps}
 use Rattle.core_laws.proofs.Then.{refused, does-as, does-then}
@@ -46,10 +46,6 @@ module _ {Z : Sizes} {t : List ℕ} (i : ℕ) (U : Unheard Z t i) where
 
   abbrev R : Rules X.islands 1 (scan_in Z T)
   R = U.sound.good.scan_wf.rules
-
-  -- what the stores ask
-  pub scan-ready : PushReady T.scan 0 (4 * Z.islands) 0 i
-  scan-ready = push_ready Z.islands U.sound.good.scan_wf 0 i (omega arith) U.in_use U.unlisted
 
   -- one more can wait
   pub waiting-lt : (scan_in Z T).count 0 < none

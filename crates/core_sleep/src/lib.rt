@@ -16,14 +16,8 @@ fn rest(t: &mut [u32], z: Sizes, i: u32, asleep: bool)
     requires { Sound z t.old × Lives z t.old i }
     ensures { Steps z (rest_as i asleep) t.old t.new }
 {
-    let word = u32::from(asleep);
-    table_words::set(
-        t,
-        z,
-        Table::Rows,
-        word::ROW * (i as usize) + word::ASLEEP,
-        word,
-    );
+    let at = word::ROW * (i as usize) + word::ASLEEP;
+    table_words::set(t, z, Table::Rows, at, u32::from(asleep));
 }
 
 // mark_island_sleeping, on sound tables.

@@ -33,24 +33,14 @@ fn audit(t: &[u32], z: Sizes) -> Result<(), Refusal>
     }
 }
 
-pub fn put(
-    t: &mut [u32],
-    z: Sizes,
-    h: Handle,
-    flags: Flags,
-) -> Answer
+pub fn put(t: &mut [u32], z: Sizes, h: Handle, flags: Flags) -> Answer
     ensures { Called z (put_step z (handle h.slot.0 h.generation) flags.fixed flags.enabled flags.sleeping) t.old result t.new }
 {
     audit(t, z)?;
     core_body::put_on(t, z, h, flags)
 }
 
-pub fn flags(
-    t: &mut [u32],
-    z: Sizes,
-    h: Handle,
-    flags: Flags,
-) -> Answer
+pub fn flags(t: &mut [u32], z: Sizes, h: Handle, flags: Flags) -> Answer
     ensures { Called z (flags_step (handle h.slot.0 h.generation) flags.fixed flags.enabled flags.sleeping) t.old result t.new }
 {
     audit(t, z)?;

@@ -4,6 +4,8 @@
 mod plain;
 mod words;
 
+ghost use Rattle.std.specs.Prelude.{◌≡◌, length, get_or};
+
 use def_kinds::{Edge, Flags, Handle, Island, JointKey, Slot};
 use plain::plain_command;
 use std::str::Split;
@@ -48,7 +50,10 @@ pub struct BadLine;
 
 // Reads a line; an empty one and a comment have no command. Its numbers of 32 bits go into `list`: one of 65,536 words has room
 // for those of the longest line.
-pub fn parse<'a>(line: &[u8], list: &'a mut [u32]) -> Result<Option<Command<'a>>, BadLine> {
+pub fn parse<'a>(line: &[u8], list: &'a mut [u32]) -> Result<Option<Command<'a>>, BadLine>
+    ensures empty { length line.now ≡ 0 → result ≡ Ok None }
+    ensures comment { get_or line.now 0 0 ≡ 35 → result ≡ Ok None }
+{
     if let [] | [b'#', ..] = line {
         return Ok(None);
     }

@@ -6,4 +6,4 @@ use Rattle.core_remove.proofs.leave_some.Goals as goal
 pub returns : goal.returns
 returns c =
     let Q = rw (c.saturating_add.ensures ∙ one-more c.get-removals.result c.get-removals.ensures.1, c.get-removals.ensures.0) at c.set.ensures in
-    others-stay c.args.s c.args.i c.requires.0 c.requires.1 c.requires.2 c.requires.3 c.requires.4 c.remove.ensures Q
+    others-stay c.args.s c.args.i c.requires.0 c.requires.1.slot_lt c.requires.1.home_is c.requires.1.some c.requires.2 c.remove.ensures Q

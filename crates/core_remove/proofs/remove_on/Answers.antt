@@ -1,7 +1,7 @@
 -- `core_remove::remove_on` meets its contract, by what the island of the body says of its slot.
 use native.Mathlib.Omega.{arith}
 use mathlib.Core.Path.{sym, ◌∙◌}
-use Rattle.core_remove.proofs.Laws.{nowhere, slot_in, home-i, island_in, peopled, left-alone, left-others}
+use Rattle.core_remove.proofs.Laws.{nowhere, housed, island_in, peopled, left-alone, left-others}
 use Rattle.core_remove.proofs.remove_on.Goals as goal
 
 pub returns-in_default : goal.returns-in_default
@@ -15,14 +15,14 @@ remove_only-requires c =
     let e = c.in-Some.ensures in
     let s = c.args.h.slot.0 in
     let g = c.args.h.generation in
-    (c.requires, slot_in s g c.requires c.in-Some.i e.0 e.1, home-i s g c.requires c.in-Some.i e.0 e.1, e.1, sym c.count.ensures.0 ∙ c.if-count-eq1.true)
+    (c.requires, housed s g c.requires c.in-Some.i e.0 e.1, sym c.count.ensures.0 ∙ c.if-count-eq1.true)
 
 pub leave_some-requires : goal.leave_some-requires
 leave_some-requires c =
     let e = c.in-Some.ensures in
     let s = c.args.h.slot.0 in
     let g = c.args.h.generation in
-    (c.requires, slot_in s g c.requires c.in-Some.i e.0 e.1, home-i s g c.requires c.in-Some.i e.0 e.1, e.1, omega (arith, peopled s g c.requires c.in-Some.i e.0 e.1, c.count.ensures.0, c.if-count-eq1.false))
+    (c.requires, housed s g c.requires c.in-Some.i e.0 e.1, omega (arith, peopled s g c.requires c.in-Some.i e.0 e.1, c.count.ensures.0, c.if-count-eq1.false))
 
 pub returns-then-count-eq1 : goal.returns-then-count-eq1
 returns-then-count-eq1 c =

@@ -1,0 +1,4 @@
+use Rattle.ashwoodrung.proofs.ashwoodrung_retire.Goals as goal
+
+pub returns : goal.returns
+returns c = (_, c.number.ensures, rw (c.new-h.ensures.0, c.new-h.ensures.1) at c.retire.ensures)

@@ -32,6 +32,7 @@ pub fn set_next(t: &mut [u32], base: usize, k: u32, v: u32)
     }
 }
 
+// Where a table's elements and its lists begin stay two numbers, here and above: who calls has base 0, and would write a struct's name and both its fields for 0, ends.
 // Puts the element e, which is in no list, last in the list i.
 pub fn push_last(t: &mut [u32], base: usize, ends: usize, i: u32, e: u32)
     requires { PushReady t.old base ends i e }

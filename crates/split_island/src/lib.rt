@@ -103,7 +103,7 @@ pub fn split_island(
     check_island(t, z, i);
 }
 
-// The same in scratch of its own: four lists of N words, of which the first n are used.
+// The same in scratch of its own: four lists of N words, of which the first n are used. There is no heap, so their size is one that is known here.
 fn split_sized<const N: usize>(t: &mut [u32], z: Sizes, i: u32, n: usize)
     requires { Splittable z i n t.old × (n ≤ N) × (N ≤ 4096) }
     ensures { Steps z (splitting i) t.old t.new }

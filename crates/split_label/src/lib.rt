@@ -109,6 +109,7 @@ fn join_links(
     joins
 }
 
+// The slices are lent one by one, as split_forest says.
 // The labels of the bodies of the live island i, the number of its components, and the label of the largest. Each slice has one word for each body.
 pub fn label_island(
     t: &[u32],

@@ -1,4 +1,5 @@
 // The walks of a split on loose tables: contact links, joint links, then bodies leave the island base, from the highest place down, by swap removal.
+// The island and its goals are lent as two: where a struct lent both, each promise would say x.entry.goals.now for goals.now.
 #![tactic(auto)]
 
 ghost use Rattle.std.specs.Prelude.{◌≡◌, ◌≢◌, length, ◌≤◌, ◌<◌, MatchOption};
@@ -42,7 +43,8 @@ pub fn leave_contact(t: &mut [u32], z: Sizes, base: u32, goals: &[u32], e: u32)
     }
 }
 
-// The three walks differ in what they keep of the state at each step, which a walk over a closure could only say by an invariant that it was handed.
+// The walks over the contact links, the joint links and the bodies differ in what holds at each step. One walk for all, over a closure or a trait, would take
+// that as an invariant with its start, its step and its end as laws: longer than the loop that it saves.
 pub fn contacts_leave(t: &mut [u32], z: Sizes, base: u32, goals: &[u32])
     requires { Goals z base goals.now t.old }
     ensures { ContactsLeft z base goals.now t.old t.new }

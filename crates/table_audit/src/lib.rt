@@ -191,10 +191,7 @@ fn same_key(t: &[u32], z: Sizes, p: u32, q: u32) -> bool
     requires { (length t.now ≡ total z) × (p < z.joints) × (q < z.joints) }
     ensures { Is result (SameKey (tables z t.now).keys p q) }
 {
-    let x = table_words::key_at(t, z, p);
-    let y = table_words::key_at(t, z, q);
-    // The kind, which most keys share, is compared last: by the derived order a full key table takes 12 ms and not 7.
-    (x.first, x.second, x.third, x.kind) == (y.first, y.second, y.third, y.kind)
+    table_words::key_at(t, z, p) == table_words::key_at(t, z, q)
 }
 
 // Is the place q not linked, or its key another than that of p?

@@ -25,13 +25,14 @@ pub enum Table {
     Fit,
 }
 
-// A joint key as its place of the key table holds it: which kind, and three numbers. A multibody's 64 bits are its high and low 32.
+// A joint key as its place of the key table holds it: three numbers, and which kind. A multibody's 64 bits are its high and low 32.
+// The kind, which most keys share, comes last, so that two keys are told apart by their numbers first: a hunt through a full key table takes half as long.
 #[derive(Clone, Copy, Debug, PartialEq, Eq)]
 pub struct KeyWords {
-    pub kind: u32,
     pub first: u32,
     pub second: u32,
     pub third: u32,
+    pub kind: u32,
 }
 
 impl From<JointKey> for KeyWords {

@@ -66,7 +66,7 @@ pub fn move_body(t: &mut [u32], z: Sizes, s: u32, to: u32)
     table_words::push(t, z, Table::Members, to, s);
 }
 
-// A number for a new island: the last freed, or the next unused. Its sleeping word is set.
+// A number for a new island: the last freed, or the next unused. Its sleeping word is set: the word of the island that is split, handed on as it stands.
 pub fn take_number(t: &mut [u32], z: Sizes, asleep: u32) -> u32
     requires { Loosely z t.old × (asleep ≤ 1) × ((freed_in z (tables z t.old)).count 0 ≡ 0 → ((extents (tables z t.old)).islands < z.islands) × ((extents (tables z t.old)).islands < none)) }
     ensures { NumberTaken z asleep result t.old t.new }

@@ -2,7 +2,7 @@
 use mathlib.Core.Path.{◌≡◌, refl, sym, ◌∙◌, ap, subst, fun_ext}
 use mathlib.Core.Logic.{◌≢◌}
 use mathlib.Core.List.{List}
-use Prim.Native.Nat.{ℕ, zero, suc, ◌-◌, ◌<◌}
+use Prim.Native.Nat.{ℕ, zero, suc, ◌+◌, ◌-◌, ◌*◌, ◌<◌}
 use native.Mathlib.Omega.{arith}
 use lib.ListN.{get_or}
 use lib.Dec.{eqb}
@@ -10,11 +10,12 @@ use borrow.Author.Tests.{eq-eqb, ne_eqb}
 use Rattle.list_in_table.specs.Rules.{none, Rules}
 use Rattle.def_kinds.specs.Choice.{pick}
 use Rattle.list_in_table.proofs.Order.{At}
+use Rattle.def_kinds.specs.declared.Handle.{Handle as Named}
 use Rattle.def_kinds.specs.declared.Sizes.{Sizes}
 use Rattle.def_state.specs.Plain.{top}
 use Rattle.def_state.specs.World.{Handle, absent_contact, World, island_at}
 use Rattle.def_state.specs.Links.{contact_removed}
-use Rattle.def_state.specs.Split.{link_goal, contacts_leave}
+use Rattle.def_state.specs.Split.{contacts_leave}
 use Rattle.table_meaning.specs.Layout.{Tables, tables, extents, contacts_in}
 use Rattle.table_meaning.specs.Decode.{contact_at, decode, world_of}
 use Rattle.core_laws.specs.Steps.{handle}
@@ -26,7 +27,8 @@ use Rattle.core_laws.proofs.Stays.{stays-refl, stays_then}
 use Rattle.core_laws.proofs.Touching.{link-held}
 use Rattle.split_move.specs.Shift.{contact_moved, node_at, ContactMoved, ContactGoes}
 use Rattle.split_move.proofs.Node.{node_stays}
-use Rattle.split_walk.specs.Walk.{goes, contact_leaves, Goals, ContactAt, ContactLeft, ContactsLeft}
+use Rattle.split_walk.specs.Walk.{goal_of, goes, contact_leaves, Goals, ContactAt, ContactLeft, ContactsLeft}
+use Rattle.core_laws.proofs.Unlink.{link-handles}
 use Rattle.split_walk.proofs.Back.{walk-on, walk_start, left-none, stays-bodies, way}
 use Rattle.split_walk.proofs.Goal.{node-lt, goal-cases}
 
@@ -37,9 +39,25 @@ joints-then : {T U W : Tables} → JointsStay T U → JointsStay U W → JointsS
 joints-then A B = record { joints = B.joints ∙ A.joints; keys = B.keys ∙ A.keys; spare = B.spare ∙ A.spare }
 
 -- ---- one link
-module _ {Z : Sizes} {t : List ℕ} (base : ℕ) (goals : List ℕ) (e : ℕ) (G : Goals Z base goals t) (A : ContactAt Z base e t) (s1 g1 s2 g2 to : ℕ)
-    (q : contact_at (tables Z t).touches e ≡ contact_of e s1 g1 s2 g2)
-    (r : to ≡ link_goal (goes goals) (node_at Z (tables Z t) base (handle s1 g1)) (node_at Z (tables Z t) base (handle s2 g2))) where
+module _ {Z : Sizes} {t : List ℕ} (base : ℕ) (goals : List ℕ) (e : ℕ) (G : Goals Z base goals t) (A : ContactAt Z base e t) (first second : Named) (to : ℕ)
+    (p1 : (first.slot.0 ≡ get_or (tables Z t).touches (4 * e) 0) × (first.generation ≡ get_or (tables Z t).touches (4 * e + 1) 0))
+    (p2 : (second.slot.0 ≡ get_or (tables Z t).touches (4 * e + 2) 0) × (second.generation ≡ get_or (tables Z t).touches (4 * e + 2 + 1) 0))
+    (r : to ≡ goal_of Z t base goals first second) where
+  abbrev s1 : ℕ
+  s1 = first.slot.0
+
+  abbrev g1 : ℕ
+  g1 = first.generation
+
+  abbrev s2 : ℕ
+  s2 = second.slot.0
+
+  abbrev g2 : ℕ
+  g2 = second.generation
+
+  q : contact_at (tables Z t).touches e ≡ contact_of e s1 g1 s2 g2
+  q = link-handles (tables Z t).touches e s1 g1 s2 g2 p1 p2
+
   abbrev T : Tables
   T = tables Z t
 

@@ -2,7 +2,7 @@
 use mathlib.Core.Path.{◌≡◌, refl, sym, ◌∙◌, ap, subst, fun_ext}
 use mathlib.Core.Logic.{◌≢◌}
 use mathlib.Core.List.{List}
-use Prim.Native.Nat.{ℕ, zero, suc, ◌+◌, ◌-◌, ◌<◌}
+use Prim.Native.Nat.{ℕ, zero, suc, ◌+◌, ◌-◌, ◌*◌, ◌<◌}
 use native.Mathlib.Omega.{arith}
 use lib.ListN.{get_or}
 use lib.Dec.{eqb}
@@ -10,11 +10,12 @@ use borrow.Author.Tests.{eq-eqb, ne_eqb}
 use Rattle.list_in_table.specs.Rules.{none, Rules}
 use Rattle.def_kinds.specs.Choice.{pick}
 use Rattle.list_in_table.proofs.Order.{At}
+use Rattle.def_kinds.specs.declared.Handle.{Handle as Named}
 use Rattle.def_kinds.specs.declared.Sizes.{Sizes}
 use Rattle.def_state.specs.Plain.{top}
 use Rattle.def_state.specs.World.{Handle, absent_joint, World, island_at}
 use Rattle.def_state.specs.Links.{joint_removed}
-use Rattle.def_state.specs.Split.{link_goal, joint_moved, joints_leave}
+use Rattle.def_state.specs.Split.{joint_moved, joints_leave}
 use Rattle.table_meaning.specs.Layout.{Tables, tables, extents, joints_in}
 use Rattle.table_meaning.specs.Decode.{handle_at, joint_at, decode, world_of}
 use Rattle.core_laws.specs.Steps.{handle}
@@ -25,7 +26,7 @@ use Rattle.core_laws.proofs.Stays.{stays-refl, stays_then}
 use Rattle.core_laws.proofs.JointKeys.{link_at}
 use Rattle.split_move.specs.Shift.{node_at, JointMoved, JointGoes}
 use Rattle.split_move.proofs.Node.{node_stays}
-use Rattle.split_walk.specs.Walk.{goes, joint_leaves, Goals, JointIn, JointLeft, JointsLeft}
+use Rattle.split_walk.specs.Walk.{goal_of, goes, joint_leaves, Goals, JointIn, JointLeft, JointsLeft}
 use Rattle.split_walk.proofs.Back.{walk-on, walk_start, left-none, stays-bodies, way}
 use Rattle.split_walk.proofs.Goal.{node-lt, goal-cases}
 
@@ -43,9 +44,28 @@ key-handle x j k s g e p q = handle-is (sym p) (ap (λ (i : ℕ). get_or x i 0) 
     handle-is p q = rw (p, q)
 
 -- ---- one link
-module _ {Z : Sizes} {t : List ℕ} (base : ℕ) (goals : List ℕ) (e : ℕ) (G : Goals Z base goals t) (A : JointIn Z base e t) (s1 g1 s2 g2 to : ℕ)
-    (q1 : (joint_at (tables Z t).keys e).body1 ≡ handle s1 g1) (q2 : (joint_at (tables Z t).keys e).body2 ≡ handle s2 g2)
-    (r : to ≡ link_goal (goes goals) (node_at Z (tables Z t) base (handle s1 g1)) (node_at Z (tables Z t) base (handle s2 g2))) where
+module _ {Z : Sizes} {t : List ℕ} (base : ℕ) (goals : List ℕ) (e : ℕ) (G : Goals Z base goals t) (A : JointIn Z base e t) (first second : Named) (to : ℕ)
+    (p1 : (first.slot.0 ≡ get_or (tables Z t).keys (8 * e + 4) 0) × (first.generation ≡ get_or (tables Z t).keys (8 * e + 4 + 1) 0))
+    (p2 : (second.slot.0 ≡ get_or (tables Z t).keys (8 * e + 6) 0) × (second.generation ≡ get_or (tables Z t).keys (8 * e + 6 + 1) 0))
+    (r : to ≡ goal_of Z t base goals first second) where
+  abbrev s1 : ℕ
+  s1 = first.slot.0
+
+  abbrev g1 : ℕ
+  g1 = first.generation
+
+  abbrev s2 : ℕ
+  s2 = second.slot.0
+
+  abbrev g2 : ℕ
+  g2 = second.generation
+
+  q1 : (joint_at (tables Z t).keys e).body1 ≡ handle s1 g1
+  q1 = key-handle (tables Z t).keys (8 * e + 4) _ s1 g1 refl p1.0 p1.1
+
+  q2 : (joint_at (tables Z t).keys e).body2 ≡ handle s2 g2
+  q2 = key-handle (tables Z t).keys (8 * e + 6) _ s2 g2 refl p2.0 p2.1
+
   abbrev T : Tables
   T = tables Z t
 

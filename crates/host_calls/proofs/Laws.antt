@@ -1,10 +1,9 @@
 -- A call from its audit: tables that are not sound are refused, and nothing changes; on sound ones it is the step.
 use Rattle.std.proofs.Common.{◌≡◌, refl, ap, List, ℕ, inl, inr, Bool, Result, Ok, Err}
-use Rattle.std.specs.Result.{result_unwrap_or}
 use Rattle.def_kinds.specs.declared.Sizes.{Sizes}
 use Rattle.def_kinds.specs.declared.Refusal.{Refusal}
 use Rattle.def_kinds.specs.declared.Refusal.TheVariants.{BadTables}
-use Rattle.def_kinds.specs.Answers.{Answer, answer_of}
+use Rattle.def_kinds.specs.Answers.{Answer}
 use Rattle.def_state.specs.World.{World, Step}
 use Rattle.def_state.specs.Split.{split_allowed}
 use Rattle.table_meaning.specs.Decode.{world_of}

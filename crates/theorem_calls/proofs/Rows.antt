@@ -1,5 +1,4 @@
 -- One law a call: its promise and a history give the next history. So the rows of `perform`, which the theorems speak of, are the promises of the code.
-use mathlib.Core.Path.{◌≡◌, ◌∙◌}
 use mathlib.Core.Logic.{inl, inr}
 use mathlib.Core.Bool.{Bool}
 use mathlib.Core.List.{List}

@@ -4,7 +4,7 @@ use mathlib.Core.Logic.{◌⊎◌, inl, inr, ◌≢◌, ⊎_elim}
 use Prim.Native.Nat.{ℕ}
 use Rattle.list_in_table.proofs.Laws.{either}
 use Rattle.def_state.specs.Plain.{top}
-use Rattle.def_state.specs.World.{Handle, World, named, body_island}
+use Rattle.def_state.specs.World.{Handle, World, body_island}
 use Rattle.theorem_split.specs.Graph.{Bond, Stands}
 use Rattle.theorem_split.proofs.Member.{none_in}
 use Rattle.theorem_split.proofs.Homes.{handle-same}

@@ -15,7 +15,7 @@ use Rattle.list_in_table.proofs.Same.{below}
 use Rattle.table_meaning.proofs.Tab.{get_d_beyond}
 use Rattle.def_kinds.specs.declared.Sizes.{Sizes}
 use Rattle.def_state.specs.Plain.{top, has, place_of, swap_remove}
-use Rattle.def_state.specs.World.{Handle, Key, impulse, chain, ContactLink, absent_contact, JointLink, absent_joint, Island, absent_island, Removal, World, Step, body_of, island_at, named}
+use Rattle.def_state.specs.World.{Handle, Key, impulse, chain, ContactLink, absent_contact, JointLink, absent_joint, Island, absent_island, Removal, World, Step, body_of, island_at}
 use Rattle.def_state.specs.Fields.{journal_set, island_set, contacts_set, joints_set}
 use Rattle.def_state.specs.Links.{edges_of, same_key, key_place, contact_below, joint_below, contact_home, joint_home, same_handle, journal_removal, journal_refuses, contact_removed, unlink_contact, joint_removed, unlink_joint}
 use Rattle.theorem_split.specs.Graph.{Name, In, here, edge, joint, Bond, of_contact, of_joint, bonds_of, Stands}

@@ -9,7 +9,7 @@ use borrow.Author.Tests.{eq-eqb, ne_eqb}
 use Rattle.list_in_table.proofs.Laws.{either}
 use Rattle.def_state.specs.Plain.{top, place_of}
 use Rattle.def_state.specs.World.{Handle, ContactLink, JointLink, World, island_at, body_island}
-use Rattle.def_state.specs.Connected.{Link, Joined, stop, step}
+use Rattle.def_state.specs.Connected.{Link, Joined}
 use Rattle.def_state.specs.Split.{node_of, ends, contact_ends, joint_ends, links_of}
 use Rattle.theorem_split.specs.Graph.{In, here, there, Path, Bond, of_contact, of_joint, bonds_of, Own}
 use Rattle.theorem_split.specs.Fine.{Fine}

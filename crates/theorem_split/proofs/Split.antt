@@ -21,9 +21,9 @@ use Rattle.theorem_split.specs.Fine.{Apart, Fine}
 use Rattle.theorem_split.specs.Parted.{Steady, Parted}
 use Rattle.theorem_split.proofs.Member.{none_in, in-at, at_in}
 use Rattle.theorem_split.proofs.Homes.{in_use, member, at_home, named_table, own_name}
-use Rattle.theorem_split.proofs.Walk.{Went, stood}
+use Rattle.theorem_split.proofs.Walk.{Went}
 use Rattle.theorem_split.proofs.Leave.{bodies_at, set-field}
-use Rattle.theorem_split.proofs.Numbers.{Spare, steady}
+use Rattle.theorem_split.proofs.Numbers.{Spare}
 use Rattle.split_forest.specs.Groups.{Inside}
 use Rattle.split_forest.proofs.Labels.{length_label, label-joined, label-own, label-lt}
 use Rattle.theorem_split.proofs.Goals.{one_label, one-component}

@@ -3,6 +3,7 @@ use crate::read::LONGEST_LINE;
 use def_kinds::{Island, NONE, Refusal, number};
 use lesson_command::{BadLine, Command, ROOM, parse};
 use lesson_dump::State;
+use lesson_text::Output;
 use std::fmt;
 use std::fmt::Write;
 
@@ -14,8 +15,17 @@ pub struct Yard<'a> {
 }
 
 impl Yard<'_> {
-    // Answers the line `line`, which is the `number`th.
-    pub fn answer_line(&mut self, line: &[u8], number: u64, out: &mut impl Write) -> fmt::Result {
+    // Answers the line `line`, which is the `number`th. No write to an `Output` fails.
+    pub fn answer_line<R: Print + Eprint, const ROOM: usize>(
+        &mut self,
+        line: &[u8],
+        number: u64,
+        out: &mut Output<'_, R, ROOM>,
+    ) {
+        let _ = self.write_answer(line, number, out);
+    }
+
+    fn write_answer(&mut self, line: &[u8], number: u64, out: &mut impl Write) -> fmt::Result {
         if line.len() > LONGEST_LINE {
             return write_bad_line(number, out);
         }

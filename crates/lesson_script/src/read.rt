@@ -89,9 +89,7 @@ impl<'a, R: Print + Eprint> Script<'a, R> {
 
     fn end_line(&mut self) {
         self.lines = self.lines.wrapping_add(1);
-        // No write to an `Output` fails.
-        let _ = self
-            .yard
+        self.yard
             .answer_line(self.line.as_slice(), self.lines, &mut self.out);
         self.line.clear();
     }

@@ -16,6 +16,9 @@ const FIRST: u32 = 4294967279;
 
 const STAMPS: u32 = 38;
 
+// What the program writes.
+type Text<'a> = Output<'a, HostRuntime, WAITING>;
+
 fn main(rt: HostRuntime) {
     let mut t = [0u32; TOTAL];
     let mut list = [0u32; LIST];
@@ -23,7 +26,7 @@ fn main(rt: HostRuntime) {
         t: &mut t,
         list: &mut list,
     };
-    let mut out: Output<'_, HostRuntime, WAITING> = Output::new(&rt);
+    let mut out: Text<'_> = Output::new(&rt);
     // No write to an `Output` fails.
     let _ = at_each(&mut yard, &mut out);
     let _ = through_all(&mut yard, &mut out);
@@ -31,7 +34,7 @@ fn main(rt: HostRuntime) {
 }
 
 // A yard of its own at each stamp.
-fn at_each(yard: &mut Yard<'_>, out: &mut impl Write) -> fmt::Result {
+fn at_each(yard: &mut Yard<'_>, out: &mut Text<'_>) -> fmt::Result {
     // One turn for each stamp.
     for k in 0..STAMPS {
         set_up(yard, FIRST.wrapping_add(k), out)?;
@@ -41,7 +44,7 @@ fn at_each(yard: &mut Yard<'_>, out: &mut impl Write) -> fmt::Result {
 }
 
 // One yard, and a scan at each stamp in turn.
-fn through_all(yard: &mut Yard<'_>, out: &mut impl Write) -> fmt::Result {
+fn through_all(yard: &mut Yard<'_>, out: &mut Text<'_>) -> fmt::Result {
     set_up(yard, FIRST, out)?;
     // One turn for each stamp.
     for _ in 0..STAMPS {
@@ -51,7 +54,7 @@ fn through_all(yard: &mut Yard<'_>, out: &mut impl Write) -> fmt::Result {
 }
 
 // Two awake islands, 0 and 1, of one body each, in a yard whose last scan had this stamp.
-fn set_up(yard: &mut Yard<'_>, stamp: u32, out: &mut impl Write) -> fmt::Result {
+fn set_up(yard: &mut Yard<'_>, stamp: u32, out: &mut Text<'_>) -> fmt::Result {
     writeln!(out, "from {stamp}")?;
     run(
         yard,
@@ -66,7 +69,7 @@ fn set_up(yard: &mut Yard<'_>, stamp: u32, out: &mut impl Write) -> fmt::Result 
 
 // Both islands are observed, the second first, and an output that is too short is lent before one that is not; then one of the
 // second island's two observations is not eligible.
-fn two_scans(yard: &mut Yard<'_>, out: &mut impl Write) -> fmt::Result {
+fn two_scans(yard: &mut Yard<'_>, out: &mut Text<'_>) -> fmt::Result {
     run(
         yard,
         "observe 0 1\nbegin\nobserve 1 1\nobserve 0 1\nobserve 2 1\nfinish 1\nfinish\nfinish\n",
@@ -80,10 +83,10 @@ fn two_scans(yard: &mut Yard<'_>, out: &mut impl Write) -> fmt::Result {
 }
 
 // Each line of a script, its answer and the stamp.
-fn run(yard: &mut Yard<'_>, script: &str, out: &mut impl Write) -> fmt::Result {
+fn run(yard: &mut Yard<'_>, script: &str, out: &mut Text<'_>) -> fmt::Result {
     // One turn for each line.
     for line in script.lines() {
-        yard.answer_line(line.as_bytes(), 0, out)?;
+        yard.answer_line(line.as_bytes(), 0, out);
         writeln!(out, "stamp {}", word(yard.t, STAMP))?;
     }
     Ok(())

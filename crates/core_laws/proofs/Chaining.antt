@@ -1,19 +1,18 @@
 -- Calls one after the other, whatever their answers; the loops of a chain refresh.
 use mathlib.Core.Path.{◌≡◌, refl, sym, ◌∙◌, ap, subst}
-use mathlib.Core.Logic.{◌⊎◌, inl, inr, ◌≢◌, ⊎_elim}
-use mathlib.Core.Bool.{Bool, true, false, not, ◌&&◌, ◌||◌}
-use mathlib.Core.List.{List, [], ◌∷◌, ◌++◌}
+use mathlib.Core.Logic.{◌≢◌}
+use mathlib.Core.Bool.{Bool, true, false, not, ◌||◌}
+use mathlib.Core.List.{List, [], ◌∷◌}
 use Prim.Native.Nat.{ℕ, zero, suc, ◌+◌, ◌-◌, ◌*◌, ◌≤◌, ◌<◌}
 use native.Mathlib.Omega.{arith}
-use native.Mathlib.Numerals.{add-one}
-use lib.Dec.{eqb, ltb, leb}
+use lib.Dec.{eqb}
 use borrow.Author.Tests.{eq-eqb, ne_eqb, lt-ltb, le-ltb}
 use lib.ListN.{length, get_or, set, length-set, length-append}
 use Rattle.def_kinds.specs.Choice.{pick}
 use Rattle.def_kinds.specs.declared.Sizes.{Sizes}
 use Rattle.def_kinds.specs.Answers.{Answer, Done, Nothing, JointsFull, JournalFull}
 use Rattle.def_state.specs.Plain.{top, empty, drop_last}
-use Rattle.def_state.specs.World.{Handle, Key, impulse, chain, JointLink, absent_joint, Island, absent_island, World, Step, done, gives, island_at, body_of, named, body_island}
+use Rattle.def_state.specs.World.{Handle, Key, chain, JointLink, absent_joint, Island, absent_island, World, Step, done, gives, island_at, named, body_island}
 use Rattle.def_state.specs.Fields.{places_set, island_set}
 use Rattle.def_state.specs.Membership.{clear_pending_split_of}
 use Rattle.def_state.specs.Links.{key_place, joint_home, survivor, absorbed, absorb, merge_islands, target, merged, joint_pushed, take_place, joint_room, link_joint, journal_removal, journal_refuses, joint_removed, unlink_joint, same_handle}
@@ -21,7 +20,7 @@ use Rattle.def_state.specs.Chain.{chainable, chained, chain_length, old_length, 
 use Rattle.table_meaning.specs.Layout.{tables, extents}
 use Rattle.table_meaning.specs.Decode.{handle_at, world_of}
 use Rattle.table_meaning.specs.Sound.{Sound}
-use Rattle.table_meaning.specs.Does.{SameBehind, Does}
+use Rattle.table_meaning.specs.Does.{Does}
 use Rattle.table_meaning.specs.Larger.{Larger}
 use Rattle.table_meaning.proofs.Unique.{slots-is, islands-is, tracked-is, places_is, journal_is}
 use Rattle.table_meaning.proofs.Frame.{kept_refl, kept_then}

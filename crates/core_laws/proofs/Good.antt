@@ -1,17 +1,11 @@
 -- The head after a store, and equal records.
-use mathlib.Core.Path.{◌≡◌, refl, sym, ◌∙◌, ap, subst}
-use mathlib.Core.Logic.{◌⊎◌, inl, inr, ◌≢◌, ⊎_elim}
-use mathlib.Core.Bool.{Bool, true, false}
+use mathlib.Core.Path.{◌≡◌}
+use mathlib.Core.Bool.{Bool}
 use mathlib.Core.Option.{Option}
-use mathlib.Core.List.{List, [], ◌∷◌, ◌++◌}
-use Prim.Native.Nat.{ℕ, zero, suc, ◌+◌, ◌-◌, ◌*◌, ◌≤◌, ◌<◌}
-use native.Mathlib.Omega.{arith}
-use lib.Dec.{eqb}
-use lib.ListN.{length, get_or, set}
-use lib.Seq.{get_or-set_same, get_or-set_other}
-use Rattle.def_state.specs.World.{Handle, Body, ContactLink, JointLink, Island, Removal, Observed, World}
+use mathlib.Core.List.{List}
+use Prim.Native.Nat.{ℕ}
+use Rattle.def_state.specs.World.{Body, ContactLink, JointLink, Island, Removal, Observed, World}
 use Rattle.table_meaning.specs.Rule.{SlotRule, IslandRule, HeadRule}
-use Rattle.table_meaning.specs.Layout.{Extents}
 
 pub body_is : {g g' l l' : ℕ} {f f' e e' z z' : Bool} → g ≡ g' → l ≡ l' → f ≡ f' → e ≡ e' → z ≡ z'
     → ◌≡◌ {A = Body} (record { generation = g; lowest = l; fixed = f; enabled = e; sleeping = z }) (record { generation = g'; lowest = l'; fixed = f'; enabled = e'; sleeping = z' })

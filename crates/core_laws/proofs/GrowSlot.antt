@@ -1,30 +1,25 @@
 -- One more slot comes into use, vacant.
 use mathlib.Core.Path.{◌≡◌, refl, sym, ◌∙◌, ap, subst}
-use mathlib.Core.Logic.{◌⊎◌, inl, inr, ◌≢◌, ⊎_elim}
-use mathlib.Core.Bool.{Bool, true, false}
-use mathlib.Core.List.{List, [], ◌∷◌, ◌++◌, map}
+use mathlib.Core.Logic.{inl, ◌≢◌}
+use mathlib.Core.List.{List, [], ◌∷◌, ◌++◌}
 use Prim.Native.Nat.{ℕ, zero, suc, ◌+◌, ◌-◌, ◌*◌, ◌≤◌, ◌<◌}
 use native.Mathlib.Omega.{arith}
-use lib.Dec.{eqb}
-use lib.ListN.{length, get_or, set, length-set}
+use lib.ListN.{length, get_or, set}
 use lib.Seq.{get_or-set_same, get_or-set_other}
-use Rattle.list_in_table.specs.Rules.{none, View, list_of}
-use Rattle.list_in_table.specs.Word.{writes, Misses, miss, hit, length_writes}
-use Rattle.list_in_table.specs.Table.{view, Wf}
+use Rattle.list_in_table.specs.Rules.{none}
+use Rattle.list_in_table.specs.Word.{writes, miss, hit}
 use Rattle.list_in_table.proofs.Laws.{either}
-use Rattle.list_in_buffer.specs.Part.{part, Put}
+use Rattle.list_in_buffer.specs.Part.{Put}
 use Rattle.def_kinds.specs.declared.Sizes.{Sizes}
 use Rattle.def_kinds.specs.Answers.{Done}
 use lib.ListN.{replicate, length-replicate, length-append}
-use Rattle.def_state.specs.World.{Body, absent_body, World, Step, done}
+use Rattle.def_state.specs.World.{Body, absent_body, World}
 use Rattle.def_state.specs.Fields.{bodies_set}
 use Rattle.def_state.specs.Bodies.{grown}
-use Rattle.table_meaning.specs.Layout.{Tables, tables, total, head_at, head_span, slots_at, slots_span, members_at, members_span, head_put, slots_put, members_put, Extents, extents, members_in, elem_words}
+use Rattle.table_meaning.specs.Layout.{Tables, tables, total, head_at, head_span, slots_at, slots_span, members_at, members_span, head_put, slots_put, members_put, Extents, extents, elem_words}
 use Rattle.table_meaning.specs.Decode.{flag, body_at, tabulate, island_in, decode, world_of}
-use Rattle.table_meaning.specs.Rule.{SlotRule, Vacant}
 use Rattle.table_meaning.specs.Sound.{SlotAt, Good, Sound}
-use Rattle.table_meaning.specs.Does.{RowsKept, SameBehind, Does}
-use Rattle.table_meaning.specs.Larger.{Larger}
+use Rattle.table_meaning.specs.Does.{SameBehind, Does}
 use Rattle.table_meaning.proofs.Puts.{Sized, sized, put-head, put-slots, put-members}
 use Rattle.table_meaning.proofs.Tab.{tabulate-same}
 use Rattle.table_meaning.proofs.Chains.{Grown, elem-grown, elem-home}

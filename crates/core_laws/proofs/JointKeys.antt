@@ -17,7 +17,7 @@ use Rattle.def_state.specs.World.{Key, impulse, chain, JointLink, absent_joint, 
 use Rattle.def_state.specs.Links.{same_key, key_place, joint_below, joint_home}
 use Rattle.table_meaning.specs.Layout.{Tables, tables, Extents, extents, joints_in}
 use Rattle.table_meaning.specs.Decode.{key_of, joint_at, island_in, decode, world_of}
-use Rattle.table_meaning.specs.Sound.{Good, Sound}
+use Rattle.table_meaning.specs.Sound.{Sound}
 use Rattle.table_meaning.proofs.Tab.{length-tabulate}
 use Rattle.table_meaning.proofs.Unique.{key-words}
 use Rattle.core_laws.specs.Places.{KeyRule, HasKey, LinkedAs, KeyAt, Unlinked}

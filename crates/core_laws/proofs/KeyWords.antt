@@ -1,11 +1,10 @@
 -- The words of a joint key.
-use Rattle.std.proofs.Common.{◌≡◌, refl, ap, ◌∙◌, ℕ, List, inl, inr}
+use Rattle.std.proofs.Common.{◌≡◌, refl, inl, inr}
 use Rattle.def_kinds.specs.declared.JointKey.{JointKey}
 use Rattle.def_kinds.specs.declared.JointKey.TheVariants.{Impulse, Chain}
-use Rattle.table_meaning.specs.declared.KeyWords.{KeyWords}
 use Rattle.table_meaning.specs.Decode.{key_of}
-use Rattle.table_meaning.specs.Keys.{key_is, words_of, key_in}
-use Rattle.core_laws.specs.Places.{KeyRule, HasKey}
+use Rattle.table_meaning.specs.Keys.{key_is, words_of}
+use Rattle.core_laws.specs.Places.{KeyRule}
 
 -- a key's words keep their rule
 pub key-ruled : (k : JointKey) → KeyRule (words_of k).kind (words_of k).third

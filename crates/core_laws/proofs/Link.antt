@@ -1,24 +1,22 @@
 -- Linking a contact and a joint: what the definitions say where their tests are known, and from the steps to the call.
-use mathlib.Core.Path.{◌≡◌, refl, sym, ◌∙◌, ap, subst}
-use mathlib.Core.Logic.{◌⊎◌, inl, inr, ◌≢◌, ⊎_elim}
-use mathlib.Core.Bool.{Bool, true, false, not, ◌||◌}
-use mathlib.Core.List.{List, [], ◌∷◌, ◌++◌}
-use Prim.Native.Nat.{ℕ, zero, suc, ◌+◌, ◌-◌, ◌*◌, ◌≤◌, ◌<◌}
+use mathlib.Core.Path.{◌≡◌, refl, sym, ◌∙◌, ap}
+use mathlib.Core.Logic.{◌≢◌}
+use mathlib.Core.Bool.{Bool, true, false}
+use mathlib.Core.List.{List, [], ◌∷◌}
+use Prim.Native.Nat.{ℕ, ◌+◌, ◌≤◌, ◌<◌}
 use native.Mathlib.Omega.{arith}
-use lib.Dec.{eqb, leb}
+use lib.Dec.{eqb}
 use borrow.Author.Tests.{eq-eqb, ne_eqb, eqb-true, le-leb, lt-leb}
-use lib.ListN.{length, get_or, set}
+use lib.ListN.{length}
 use Rattle.def_kinds.specs.Choice.{pick}
 use Rattle.def_kinds.specs.declared.Sizes.{Sizes}
-use Rattle.def_kinds.specs.Answers.{Answer, Done, Nothing, OverSize, JointsFull}
+use Rattle.def_kinds.specs.Answers.{Done, Nothing, OverSize, JointsFull}
 use Rattle.def_state.specs.Plain.{top, empty, drop_last, last_of}
-use Rattle.def_state.specs.World.{Handle, Key, ContactLink, JointLink, World, Step, done, gives, island_at, body_island}
+use Rattle.def_state.specs.World.{Handle, Key, ContactLink, World, Step, done, gives, island_at, body_island}
 use Rattle.def_state.specs.Fields.{places_set, island_set}
 use Rattle.def_state.specs.Membership.{clear_pending_split_of}
 use Rattle.def_state.specs.Links.{contact_home, joint_home, survivor, absorb, merge_islands, target, merged, contact_pushed, joint_pushed, track, link_contact, new_place, take_place, joint_room, link_joint}
-use Rattle.table_meaning.specs.Layout.{tables, extents}
 use Rattle.table_meaning.specs.Decode.{world_of}
-use Rattle.table_meaning.specs.Sound.{Sound}
 use Rattle.table_meaning.specs.Does.{Does}
 use Rattle.table_meaning.proofs.Frame.{larger-then, kept_then}
 use Rattle.core_laws.specs.Steps.{Steps}

@@ -1,20 +1,16 @@
 -- From the steps to the call: contact link.
-use mathlib.Core.Path.{◌≡◌, refl, sym, ◌∙◌, ap, subst}
-use mathlib.Core.Logic.{◌⊎◌, inl, inr, ◌≢◌, ⊎_elim}
+use mathlib.Core.Path.{◌≡◌, sym, ◌∙◌, ap}
+use mathlib.Core.Logic.{◌≢◌}
 use mathlib.Core.List.{List}
-use Prim.Native.Nat.{ℕ, ◌+◌, ◌≤◌, ◌<◌}
+use Prim.Native.Nat.{ℕ, ◌+◌, ◌<◌}
 use native.Mathlib.Omega.{arith}
-use lib.ListN.{length}
-use lib.Dec.{eqb}
 use Rattle.list_in_table.specs.Rules.{none}
-use Rattle.def_kinds.specs.Choice.{pick}
 use Rattle.def_kinds.specs.declared.Sizes.{Sizes}
 use Rattle.def_kinds.specs.Answers.{Done, Nothing}
-use Rattle.def_state.specs.World.{Handle, ContactLink, World, Step, done, gives, body_island}
-use Rattle.def_state.specs.Links.{contact_home, survivor, merge_islands, target, merged, track, contact_pushed, link_contact}
+use Rattle.def_state.specs.World.{Handle, ContactLink, World, done}
+use Rattle.def_state.specs.Links.{contact_home, merge_islands, target, merged, track, contact_pushed, link_contact}
 use Rattle.table_meaning.specs.Layout.{tables, extents, contacts_in}
 use Rattle.table_meaning.specs.Decode.{world_of}
-use Rattle.table_meaning.specs.Sound.{Sound}
 use Rattle.table_meaning.specs.Does.{Does}
 use Rattle.core_laws.specs.Steps.{Steps, handle}
 use Rattle.core_laws.specs.Linking.{tracking, contact_push, contact_of}

@@ -1,21 +1,18 @@
 -- From the steps to the call: joint link.
-use mathlib.Core.Path.{◌≡◌, refl, sym, ◌∙◌, ap, subst}
-use mathlib.Core.Logic.{◌⊎◌, inl, inr, ◌≢◌, ⊎_elim}
+use mathlib.Core.Path.{◌≡◌, sym, ◌∙◌, ap, subst}
+use mathlib.Core.Logic.{◌≢◌}
 use mathlib.Core.List.{List}
-use Prim.Native.Nat.{ℕ, ◌+◌, ◌*◌, ◌≤◌, ◌<◌}
+use Prim.Native.Nat.{ℕ, ◌+◌, ◌*◌, ◌<◌}
 use native.Mathlib.Omega.{arith}
 use lib.ListN.{length, get_or}
-use lib.Dec.{eqb}
-use Rattle.list_in_table.specs.Rules.{none, list_of}
-use Rattle.def_kinds.specs.Choice.{pick}
-use Rattle.list_in_table.proofs.Laws.{either}
+use Rattle.list_in_table.specs.Rules.{none}
 use Rattle.list_in_table.proofs.Order.{length-list}
 use Rattle.def_kinds.specs.declared.Sizes.{Sizes}
-use Rattle.def_kinds.specs.Answers.{Done, Nothing, JointsFull}
-use Rattle.def_state.specs.World.{Handle, Key, Island, absent_island, World, Step, done, gives, island_at, body_island}
-use Rattle.def_state.specs.Links.{joint_home, joint_below, survivor, merge_islands, target, merged, joint_pushed, new_place, take_place, joint_room, link_joint}
-use Rattle.table_meaning.specs.Layout.{Tables, tables, Extents, extents, members_in, joints_in}
-use Rattle.table_meaning.specs.Decode.{island_in, key_of, world_of}
+use Rattle.def_kinds.specs.Answers.{Done}
+use Rattle.def_state.specs.World.{Handle, Key, Island, absent_island, World, Step, done, island_at}
+use Rattle.def_state.specs.Links.{joint_home, joint_below, merge_islands, target, merged, joint_pushed, new_place, take_place, joint_room, link_joint}
+use Rattle.table_meaning.specs.Layout.{Tables, tables, Extents, extents, members_in}
+use Rattle.table_meaning.specs.Decode.{world_of}
 use Rattle.table_meaning.specs.Sound.{Sound}
 use Rattle.table_meaning.specs.Does.{Does}
 use Rattle.table_meaning.proofs.Unique.{islands-is}
@@ -24,7 +21,7 @@ use Rattle.core_laws.specs.Steps.{Steps}
 use Rattle.core_laws.specs.Lives.{Lives}
 use Rattle.core_laws.specs.Linking.{place_ready, joint_hold}
 use Rattle.core_laws.specs.Merging.{LinksStay, MergeDone, LinkEnds}
-use Rattle.core_laws.specs.Places.{HasKey, LinkedAs, Unlinked}
+use Rattle.core_laws.specs.Places.{Unlinked}
 use Rattle.core_laws.proofs.Names.{island-at}
 use Rattle.core_laws.proofs.GrowPlace.{place-is-ready}
 use Rattle.core_laws.proofs.Link.{survivor-same, joint-new, merged-hold}

@@ -2,21 +2,21 @@
 use mathlib.Core.Path.{◌≡◌, refl, sym, ◌∙◌, ap, subst}
 use mathlib.Core.Logic.{◌⊎◌, inl, inr, ◌≢◌, ⊎_elim}
 use mathlib.Core.List.{List}
-use Prim.Native.Nat.{ℕ, ◌+◌, ◌-◌, ◌*◌, ◌≤◌, ◌<◌}
+use Prim.Native.Nat.{ℕ, ◌+◌, ◌-◌, ◌*◌, ◌<◌}
 use native.Mathlib.Omega.{arith}
 use lib.ListN.{length, get_or, set}
 use lib.Seq.{get_or-take, get_or-set_other}
-use Rattle.list_in_table.specs.Rules.{none, View, list_of, swap_remove}
+use Rattle.list_in_table.specs.Rules.{none, list_of, swap_remove}
 use Rattle.list_in_table.specs.Table.{view, Wf}
 use Rattle.list_in_table.proofs.Laws.{held}
 use Rattle.list_in_table.proofs.Order.{length-list}
 use Rattle.def_kinds.specs.declared.Sizes.{Sizes}
-use Rattle.def_state.specs.World.{World, Step, done}
+use Rattle.def_state.specs.World.{World, done}
 use Rattle.table_meaning.specs.Layout.{Tables, tables, total, Extents, extents, members_in, contacts_in, joints_in, freed_in}
 use Rattle.table_meaning.specs.Decode.{decode, world_of}
 use Rattle.table_meaning.specs.Rule.{Live, Freed}
 use Rattle.table_meaning.specs.Sound.{IslandAt, Good, Sound}
-use Rattle.table_meaning.specs.Does.{SameBehind, Does}
+use Rattle.table_meaning.specs.Does.{SameBehind}
 use Rattle.table_meaning.specs.Larger.{Larger}
 use Rattle.table_meaning.proofs.Chains.{Taken}
 use Rattle.table_meaning.proofs.Frame.{larger-refl, larger-then, kept_refl, kept_then, world-at, kept_at}

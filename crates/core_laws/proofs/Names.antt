@@ -1,25 +1,23 @@
 -- What a handle names and which island a body is in, in the words of the tables.
-use mathlib.Core.Path.{◌≡◌, refl, sym, ◌∙◌, ap, subst}
-use mathlib.Core.Logic.{◌⊎◌, inl, inr, ◌≢◌, ⊎_elim}
-use mathlib.Core.Bool.{Bool, true, false, false≢true}
-use mathlib.Core.List.{List, [], ◌∷◌, ◌++◌}
-use Prim.Native.Nat.{ℕ, zero, suc, ◌+◌, ◌-◌, ◌*◌, ◌≤◌, ◌<◌}
+use mathlib.Core.Path.{◌≡◌, refl, sym, ◌∙◌, ap}
+use mathlib.Core.Logic.{◌≢◌, ⊎_elim}
+use mathlib.Core.Bool.{true, false, false≢true}
+use mathlib.Core.List.{List, [], ◌∷◌}
+use Prim.Native.Nat.{ℕ, zero, suc, ◌+◌, ◌*◌, ◌≤◌, ◌<◌}
 use native.Mathlib.Omega.{arith}
 use lib.Dec.{eqb}
-use borrow.Author.Tests.{eq-eqb, ne_eqb, eqb-true, eqb-false}
+use borrow.Author.Tests.{eq-eqb, ne_eqb, eqb-true}
 use lib.ListN.{length, get_or}
-use Rattle.list_in_table.specs.Rules.{none, View, Rules, Blank, Held, list_of}
-use Rattle.list_in_table.specs.Table.{view}
-use Rattle.def_kinds.specs.Choice.{pick}
+use Rattle.list_in_table.specs.Rules.{none, View, Rules, Held, list_of}
 use Rattle.list_in_table.proofs.Laws.{either, held, held_in}
 use Rattle.list_in_table.proofs.Same.{below}
-use Rattle.list_in_table.proofs.Order.{At, length-list, list_at, list-of}
+use Rattle.list_in_table.proofs.Order.{length-list, list_at, list-of}
 use Rattle.def_kinds.specs.declared.Sizes.{Sizes}
 use Rattle.def_state.specs.Plain.{top, has, place_of}
-use Rattle.def_state.specs.World.{Handle, Body, absent_body, Island, absent_island, World, body_of, island_at, named, island_below, island_of, body_island}
+use Rattle.def_state.specs.World.{Handle, absent_body, Island, absent_island, World, body_of, island_at, named, island_below, island_of}
 use Rattle.table_meaning.specs.Layout.{Tables, tables, Extents, extents, members_in}
 use Rattle.table_meaning.specs.Decode.{body_at, island_in, decode, world_of}
-use Rattle.table_meaning.specs.Rule.{SlotRule, Vacant, Filled}
+use Rattle.table_meaning.specs.Rule.{Filled}
 use Rattle.table_meaning.specs.Sound.{Good, Sound}
 use Rattle.table_meaning.proofs.Tab.{length-tabulate, get_d_tabulate, get_d_beyond}
 use Rattle.core_laws.specs.Steps.{handle}

@@ -27,9 +27,9 @@ use Rattle.table_meaning.proofs.Tab.{tabulate-set}
 use Rattle.table_meaning.proofs.Frame.{larger-refl, kept_then, kept-contacts, kept-touches}
 use Rattle.core_laws.specs.Steps.{Steps}
 use Rattle.core_laws.specs.Drops.{Stays, JointsStay}
-use Rattle.core_laws.specs.Loose.{OpenAt, LooseAt, Loose, Loosely, Peopled, Moves, EntryLeft, ContactGone}
+use Rattle.core_laws.specs.Loose.{OpenAt, LooseAt, Loose, Loosely, Peopled, EntryLeft, ContactGone}
 use Rattle.core_laws.specs.Linking.{contact_of, contact_push, contact_remove}
-use Rattle.core_laws.proofs.Good.{island-is, world_is, island-rule}
+use Rattle.core_laws.proofs.Good.{island-is, world_is}
 use Rattle.core_laws.proofs.At.{steps-at}
 use Rattle.core_laws.proofs.Loose.{loose-rule, lives-open, good-loose, loose-good, peopled, sound-loose, moves-at, moved-steps, left-taken}
 use Rattle.core_laws.proofs.Names.{listed_lt, island-at}

@@ -1,31 +1,26 @@
 -- put, flags and the freeing of a slot: what they say where their tests are known.
-use mathlib.Core.Path.{◌≡◌, refl, sym, ◌∙◌, ap, subst}
-use mathlib.Core.Logic.{◌⊎◌, inl, inr, ◌≢◌, ⊎_elim}
+use mathlib.Core.Path.{◌≡◌, refl, sym, ◌∙◌, ap}
+use mathlib.Core.Logic.{◌≢◌}
 use mathlib.Core.Bool.{Bool, true, false}
-use mathlib.Core.List.{List, [], ◌∷◌, ◌++◌}
-use Prim.Native.Nat.{ℕ, zero, suc, ◌+◌, ◌-◌, ◌*◌, ◌≤◌, ◌<◌}
+use mathlib.Core.List.{List}
+use Prim.Native.Nat.{ℕ, ◌+◌, ◌*◌, ◌≤◌, ◌<◌}
 use native.Mathlib.Omega.{arith}
-use lib.Dec.{eqb, ltb, leb}
 use borrow.Author.Tests.{eq-eqb, ne_eqb, le-leb, lt-leb, lt-ltb, le-ltb}
-use lib.ListN.{length, get_or, set}
+use lib.ListN.{get_or, set}
 use Rattle.std.specs.Int.{from_bool}
 use Rattle.list_in_table.specs.Rules.{none}
-use Rattle.def_kinds.specs.Choice.{pick}
 use Rattle.def_kinds.specs.declared.Sizes.{Sizes}
-use Rattle.def_kinds.specs.Answers.{Answer, Done, Nothing, OverSize, SlotTaken, BadGeneration}
-use Rattle.def_state.specs.World.{Handle, Body, absent_body, World, Step, done, gives, body_of, named}
+use Rattle.def_kinds.specs.Answers.{Done, Nothing, OverSize, SlotTaken, BadGeneration}
+use Rattle.def_state.specs.World.{Handle, Body, absent_body, World, done, gives, body_of, named}
 use Rattle.def_state.specs.Fields.{bodies_set}
-use Rattle.def_state.specs.Bodies.{grown, filled, placed, put, flags, vacated, vacate}
-use Rattle.table_meaning.specs.Layout.{Tables, tables, Extents, extents}
-use Rattle.table_meaning.specs.Decode.{bit_of, flag, body_at, decode, world_of}
-use Rattle.table_meaning.specs.Sound.{Good, Sound}
+use Rattle.def_state.specs.Bodies.{grown, filled, placed, put, flags}
+use Rattle.table_meaning.specs.Layout.{tables, extents}
+use Rattle.table_meaning.specs.Decode.{bit_of, flag, body_at, world_of}
 use Rattle.table_meaning.specs.Does.{Does}
-use Rattle.table_meaning.specs.Larger.{Larger}
 use Rattle.table_meaning.proofs.Unique.{slots-is}
 use Rattle.table_meaning.proofs.Frame.{larger-refl}
-use Rattle.table_meaning.proofs.Tab.{get_d_beyond}
 use Rattle.core_laws.specs.Steps.{handle, body_with, grow, stand, Grew, Stood}
-use Rattle.core_laws.proofs.Then.{refused, does-as, does-then}
+use Rattle.core_laws.proofs.Then.{does-as, does-then}
 use Rattle.core_laws.proofs.GrowSlot.{grown-none}
 use Rattle.core_laws.proofs.Names.{body-of, body-far}
 

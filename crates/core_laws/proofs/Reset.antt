@@ -1,26 +1,24 @@
 -- Nothing in use: sound, whatever else the words are.
-use mathlib.Core.Path.{◌≡◌, refl, sym, ◌∙◌, ap, subst}
-use mathlib.Core.Logic.{◌⊎◌, inl, inr, ◌≢◌, ⊎_elim}
-use mathlib.Core.Bool.{Bool, true, false}
-use mathlib.Core.List.{List, [], ◌∷◌, ◌++◌, map}
-use Prim.Native.Nat.{ℕ, zero, suc, ◌+◌, ◌-◌, ◌*◌, ◌≤◌, ◌<◌}
+use mathlib.Core.Path.{◌≡◌, refl, ◌∙◌, ap, subst}
+use mathlib.Core.Logic.{inl}
+use mathlib.Core.List.{List, [], ◌∷◌, map}
+use Prim.Native.Nat.{ℕ, ◌+◌, ◌*◌, ◌≤◌}
 use native.Mathlib.Omega.{arith}
-use lib.ListN.{length, get_or, set, length-set}
-use lib.Seq.{get_or-set_same, get_or-set_other}
-use Rattle.list_in_table.specs.Rules.{none, View, list_of}
-use Rattle.list_in_table.specs.Word.{writes, Misses, miss, hit, length_writes}
+use lib.ListN.{length, get_or}
+use Rattle.list_in_table.specs.Rules.{list_of}
+use Rattle.list_in_table.specs.Word.{writes, miss, hit, length_writes}
 use Rattle.list_in_table.specs.Table.{view, Wf}
-use Rattle.list_in_buffer.specs.Part.{part, Put}
+use Rattle.list_in_buffer.specs.Part.{Put}
 use Rattle.def_kinds.specs.declared.Sizes.{Sizes}
 use Rattle.def_kinds.specs.Answers.{Done}
-use Rattle.def_state.specs.World.{World, empty_world}
-use Rattle.table_meaning.specs.Layout.{Tables, tables, total, head_at, head_span, freed_at, freed_span, spare_at, spare_span, scan_at, scan_span, head_put, freed_put, spare_put, scan_put, list_words, Extents, extents, freed_in, spare_in, scan_in}
-use Rattle.table_meaning.specs.Decode.{flag, tabulate, observed_at, decode, world_of}
-use Rattle.table_meaning.specs.Sound.{Good, Sound}
-use Rattle.table_meaning.specs.Does.{ChainKept, SameBehind, Emptied}
+use Rattle.def_state.specs.World.{empty_world}
+use Rattle.table_meaning.specs.Layout.{Tables, tables, total, head_at, head_span, freed_at, freed_span, spare_at, spare_span, scan_at, scan_span, head_put, freed_put, spare_put, scan_put, list_words, Extents, extents}
+use Rattle.table_meaning.specs.Decode.{flag, tabulate, observed_at, decode}
+use Rattle.table_meaning.specs.Sound.{Good}
+use Rattle.table_meaning.specs.Does.{SameBehind, Emptied}
 use Rattle.table_meaning.proofs.Puts.{Sized, sized, put-head, put-freed, put-spare, put-scan}
 use Rattle.table_meaning.proofs.Chains.{Grown, list-grown, list_count, list-new}
-use Rattle.table_meaning.proofs.Frame.{larger-refl, kept_refl, kept_then, kept-head, kept-freed, kept-spare, kept-scan, sound-at, world-at, kept_at, extents-is}
+use Rattle.table_meaning.proofs.Frame.{larger-refl, kept_then, kept-head, kept-freed, kept-spare, kept-scan, sound-at, world-at, kept_at, extents-is}
 use Rattle.core_laws.proofs.Good.{world_is}
 
 -- no element and no list in use

@@ -1,40 +1,38 @@
 -- The journal's entries are counted one after the other, and the journal is then empty.
 use mathlib.Core.Path.{◌≡◌, refl, sym, ◌∙◌, ap, subst}
-use mathlib.Core.Logic.{◌⊎◌, inl, inr, ◌≢◌, ⊎_elim}
-use mathlib.Core.Bool.{Bool, true, false}
-use mathlib.Core.List.{List, [], ◌∷◌, ◌++◌}
-use Prim.Native.Nat.{ℕ, zero, suc, ◌+◌, ◌-◌, ◌*◌, ◌≤◌, ◌<◌}
+use mathlib.Core.Logic.{◌⊎◌, inr, ◌≢◌, ⊎_elim}
+use mathlib.Core.List.{List, [], ◌∷◌}
+use Prim.Native.Nat.{ℕ, suc, ◌+◌, ◌*◌, ◌≤◌, ◌<◌}
 use native.Mathlib.Omega.{arith}
 use lib.ListN.{length, get_or, set}
 use lib.Seq.{get_or-set_same, get_or-set_other}
 use Rattle.list_in_table.specs.Rules.{none}
 use Rattle.list_in_table.proofs.Laws.{either}
-use Rattle.list_in_buffer.specs.Part.{part, Put}
+use Rattle.list_in_buffer.specs.Part.{Put}
 use Rattle.def_kinds.specs.declared.Sizes.{Sizes}
 use lib.ListN.{drop}
 use lib.Seq.{drop-cons}
-use lib.Dec.{eqb}
 use borrow.Author.Tests.{eq-eqb, ne_eqb}
 use native.Mathlib.Numerals.{add-one}
 use Rattle.def_kinds.specs.Choice.{pick}
 use Rattle.def_kinds.specs.Answers.{Done, Nothing}
 use Rattle.def_state.specs.Plain.{top, empty, more}
-use Rattle.def_state.specs.World.{Handle, Island, absent_island, Removal, World, Step, done, gives, island_at, body_island}
-use Rattle.def_state.specs.Fields.{journal_set, islands_set, island_set, count_set}
+use Rattle.def_state.specs.World.{Removal, World, Step, done, gives, island_at, body_island}
+use Rattle.def_state.specs.Fields.{journal_set, island_set, count_set}
 use Rattle.def_state.specs.Resolver.{counted, count_all, resolve_removals}
-use Rattle.table_meaning.specs.Layout.{Tables, tables, total, head_at, head_span, rows_at, rows_span, head_put, rows_put, Extents, extents, members_in, freed_in}
-use Rattle.table_meaning.specs.Decode.{flag, island_in, removal_at, tabulate, decode, world_of}
+use Rattle.table_meaning.specs.Layout.{Tables, tables, head_at, head_span, rows_at, rows_span, head_put, rows_put, Extents, extents, members_in}
+use Rattle.table_meaning.specs.Decode.{flag, removal_at, tabulate, decode, world_of}
 use Rattle.table_meaning.specs.Sound.{Good, Sound}
-use Rattle.table_meaning.specs.Does.{RowsKept, SameBehind, Does}
+use Rattle.table_meaning.specs.Does.{SameBehind, Does}
 use Rattle.table_meaning.proofs.Puts.{Sized, sized, put-head, put-rows}
-use Rattle.table_meaning.proofs.Tab.{length-tabulate, get_d_tabulate}
+use Rattle.table_meaning.proofs.Tab.{get_d_tabulate}
 use Rattle.table_meaning.proofs.Unique.{journal_is}
 use Rattle.table_meaning.proofs.Frame.{larger-refl, kept_then, kept-rows, kept-head, sound-at, world-at, kept_at, extents-is}
-use Rattle.core_laws.specs.Steps.{Steps, handle}
+use Rattle.core_laws.specs.Steps.{handle}
 use Rattle.core_laws.specs.Resolving.{entry_of, counting, RowsOnly, Counted}
 use Rattle.core_laws.proofs.Good.{world_is, island-is, head-rule}
 use Rattle.core_laws.proofs.At.{steps-none, steps-as}
-use Rattle.core_laws.proofs.Isle.{Aside, aside, set-aside}
+use Rattle.core_laws.proofs.Isle.{Aside, set-aside}
 use Rattle.core_laws.proofs.Row.{row-steps}
 
 rows_refl : {Z : Sizes} {t : List ℕ} → RowsOnly Z t t

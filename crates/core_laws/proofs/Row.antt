@@ -1,24 +1,21 @@
 -- The three words of a live island change, and nothing else.
 use mathlib.Core.Path.{◌≡◌, refl, sym, ◌∙◌, ap, subst}
-use mathlib.Core.Logic.{◌⊎◌, inl, inr, ◌≢◌, ⊎_elim}
-use mathlib.Core.Bool.{Bool, true, false}
-use mathlib.Core.List.{List, [], ◌∷◌, ◌++◌}
-use Prim.Native.Nat.{ℕ, zero, suc, ◌+◌, ◌-◌, ◌*◌, ◌≤◌, ◌<◌}
+use mathlib.Core.Logic.{inl, inr, ◌≢◌, ⊎_elim}
+use mathlib.Core.List.{List}
+use Prim.Native.Nat.{ℕ, ◌+◌, ◌*◌, ◌≤◌, ◌<◌}
 use native.Mathlib.Omega.{arith}
-use lib.ListN.{length, get_or, set}
-use lib.Seq.{get_or-set_same, get_or-set_other}
-use Rattle.list_in_table.specs.Rules.{none}
+use lib.ListN.{get_or, set}
 use Rattle.list_in_table.proofs.Laws.{either}
-use Rattle.list_in_buffer.specs.Part.{part, Put}
+use Rattle.list_in_buffer.specs.Part.{Put}
 use Rattle.def_kinds.specs.declared.Sizes.{Sizes}
-use Rattle.def_state.specs.World.{Island, absent_island, World, Step, done, island_at}
+use Rattle.def_state.specs.World.{Island, done, island_at}
 use Rattle.def_state.specs.Fields.{islands_set, island_set}
-use Rattle.table_meaning.specs.Layout.{Tables, tables, total, rows_at, rows_span, rows_put, Extents, extents, members_in, freed_in}
-use Rattle.table_meaning.specs.Decode.{flag, island_in, decode, world_of}
+use Rattle.table_meaning.specs.Layout.{Tables, tables, rows_at, rows_span, rows_put, Extents, extents, members_in, freed_in}
+use Rattle.table_meaning.specs.Decode.{island_in, decode}
 use Rattle.table_meaning.specs.Rule.{Live}
 use Rattle.table_meaning.specs.Sound.{IslandAt, Good, Sound}
-use Rattle.table_meaning.specs.Does.{RowsKept, SameBehind}
-use Rattle.table_meaning.proofs.Puts.{Sized, sized, put-rows}
+use Rattle.table_meaning.specs.Does.{SameBehind}
+use Rattle.table_meaning.proofs.Puts.{put-rows}
 use Rattle.table_meaning.proofs.Tab.{tabulate-set}
 use Rattle.table_meaning.proofs.Frame.{larger-refl, kept-rows}
 use Rattle.core_laws.specs.Steps.{Steps}

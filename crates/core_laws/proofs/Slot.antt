@@ -1,27 +1,21 @@
 -- A slot in use gets new words.
 use mathlib.Core.Path.{◌≡◌, refl, sym, ◌∙◌, ap, subst}
-use mathlib.Core.Logic.{◌⊎◌, inl, inr, ◌≢◌, ⊎_elim}
-use mathlib.Core.Bool.{Bool, true, false}
-use mathlib.Core.List.{List, [], ◌∷◌, ◌++◌, map}
-use Prim.Native.Nat.{ℕ, zero, suc, ◌+◌, ◌-◌, ◌*◌, ◌≤◌, ◌<◌}
+use mathlib.Core.Logic.{◌≢◌}
+use mathlib.Core.List.{List, [], ◌∷◌}
+use Prim.Native.Nat.{ℕ, ◌+◌, ◌*◌, ◌<◌}
 use native.Mathlib.Omega.{arith}
-use lib.Dec.{eqb}
-use lib.ListN.{length, get_or, set, length-set}
-use lib.Seq.{get_or-set_same, get_or-set_other}
-use Rattle.list_in_table.specs.Rules.{none, View, list_of}
-use Rattle.list_in_table.specs.Word.{writes, Misses, miss, hit, length_writes}
-use Rattle.list_in_table.specs.Table.{view, Wf}
+use lib.ListN.{length, get_or, set}
+use Rattle.list_in_table.specs.Word.{writes, miss, hit}
 use Rattle.list_in_table.proofs.Laws.{either}
-use Rattle.list_in_buffer.specs.Part.{part, Put}
+use Rattle.list_in_buffer.specs.Part.{Put}
 use Rattle.def_kinds.specs.declared.Sizes.{Sizes}
-use Rattle.def_kinds.specs.Answers.{Done}
-use Rattle.def_state.specs.World.{Body, absent_body, World, Step, done}
+use Rattle.def_state.specs.World.{World}
 use Rattle.def_state.specs.Fields.{bodies_set}
-use Rattle.table_meaning.specs.Layout.{Tables, tables, total, slots_at, slots_span, slots_put, Extents, extents, members_in}
-use Rattle.table_meaning.specs.Decode.{flag, body_at, tabulate, decode, world_of}
+use Rattle.table_meaning.specs.Layout.{Tables, tables, slots_at, slots_span, slots_put, Extents, extents, members_in}
+use Rattle.table_meaning.specs.Decode.{flag, body_at, decode}
 use Rattle.table_meaning.specs.Rule.{SlotRule}
 use Rattle.table_meaning.specs.Sound.{SlotAt, Good, Sound}
-use Rattle.table_meaning.specs.Does.{RowsKept, SameBehind, Does}
+use Rattle.table_meaning.specs.Does.{SameBehind}
 use Rattle.table_meaning.proofs.Puts.{Sized, sized, put-slots}
 use Rattle.table_meaning.proofs.Tab.{tabulate-set}
 use Rattle.table_meaning.proofs.Frame.{kept-slots, sound-at, world-at, kept_at}

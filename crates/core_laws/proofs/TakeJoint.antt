@@ -2,10 +2,10 @@
 use mathlib.Core.Path.{◌≡◌, refl, sym, ◌∙◌, ap, subst}
 use mathlib.Core.Logic.{inl, inr, ◌≢◌, ⊎_elim}
 use mathlib.Core.List.{List, [], ◌∷◌, ◌++◌, map}
-use Prim.Native.Nat.{ℕ, zero, suc, ◌+◌, ◌-◌, ◌*◌, ◌<◌}
+use Prim.Native.Nat.{ℕ, ◌+◌, ◌*◌, ◌<◌}
 use native.Mathlib.Omega.{arith}
-use lib.ListN.{length, get_or, set, take, length-map}
-use Rattle.list_in_table.specs.Rules.{none, View, Held, list_of, swap_remove as taken_out}
+use lib.ListN.{length}
+use Rattle.list_in_table.specs.Rules.{none, View, Held, list_of}
 use Rattle.list_in_table.specs.Word.{writes}
 use Rattle.list_in_table.specs.Table.{removed, pushed, PushReady, RemoveReady}
 use Rattle.list_in_table.proofs.Laws.{either, held}
@@ -13,12 +13,12 @@ use Rattle.list_in_table.proofs.Order.{length-list}
 use Rattle.list_in_buffer.specs.Part.{Put}
 use Rattle.def_kinds.specs.declared.Sizes.{Sizes}
 use Rattle.def_state.specs.Plain.{swap_remove}
-use Rattle.def_state.specs.World.{JointLink, absent_joint, Island, island_at}
+use Rattle.def_state.specs.World.{JointLink, absent_joint, Island}
 use Rattle.def_state.specs.Fields.{island_set, joints_set}
 use Rattle.def_state.specs.Links.{joint_removed}
 use Rattle.table_meaning.specs.Layout.{Tables, tables, total, joints_at, joints_span, keys_at, keys_span, spare_at, spare_span, joints_put, keys_put, spare_put, Extents, extents, joints_in, spare_in, elem_words}
 use Rattle.table_meaning.specs.Decode.{joint_at, island_in, decode}
-use Rattle.table_meaning.specs.Sound.{JointAt, Distinct, Sound}
+use Rattle.table_meaning.specs.Sound.{JointAt, Distinct}
 use Rattle.table_meaning.specs.Does.{SameBehind}
 use Rattle.table_meaning.proofs.Puts.{Sized, sized, put-joints, put-keys, put-spare}
 use Rattle.table_meaning.proofs.Tab.{tabulate-set}

@@ -1,11 +1,10 @@
 -- Steps that do nothing, steps one after the other, and steps that are the same at the state in hand.
-use mathlib.Core.Path.{◌≡◌, refl, sym, ◌∙◌, ap, subst}
+use mathlib.Core.Path.{◌≡◌, sym, ◌∙◌, ap}
 use mathlib.Core.List.{List}
 use Prim.Native.Nat.{ℕ}
-use lib.ListN.{length}
 use Rattle.def_kinds.specs.declared.Sizes.{Sizes}
-use Rattle.def_kinds.specs.Answers.{Answer, Done}
-use Rattle.def_state.specs.World.{World, Step, done, gives}
+use Rattle.def_kinds.specs.Answers.{Answer}
+use Rattle.def_state.specs.World.{World, Step, gives}
 use Rattle.table_meaning.specs.Layout.{tables, extents}
 use Rattle.table_meaning.specs.Decode.{world_of}
 use Rattle.table_meaning.specs.Sound.{Sound}

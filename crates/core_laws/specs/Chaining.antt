@@ -1,15 +1,13 @@
 -- The lent list of a chain refresh, and what its loops do.
 use Rattle.std.specs.Prelude.{◌≡◌, List, [], ◌∷◌, ℕ, zero, suc, ◌+◌, ◌*◌, ◌≤◌, length, Bool}
 use Rattle.def_kinds.specs.declared.Sizes.{Sizes}
-use Rattle.def_kinds.specs.Answers.{Answer}
-use Rattle.def_state.specs.World.{Handle, World, Step, done}
+use Rattle.def_state.specs.World.{Handle, World}
 use Rattle.def_state.specs.Chain.{chainable, linked, linked_all}
 use Rattle.def_kinds.specs.Choice.{pick}
 use Rattle.table_meaning.specs.Layout.{tables, extents}
 use Rattle.table_meaning.specs.Decode.{handle_at, world_of}
 use Rattle.table_meaning.specs.Sound.{Sound}
 use Rattle.table_meaning.specs.Does.{SameBehind}
-use Rattle.table_meaning.specs.Larger.{Larger}
 
 -- m handles, two words each, from the k-th on
 unfoldable pub handles_from : List ℕ → ℕ → ℕ → List Handle

@@ -1,8 +1,8 @@
 -- The steps that linking, unlinking, merging and renumbering are made of. Each leaves the tables well formed.
-use Rattle.std.specs.Prelude.{◌≡◌, Bool, true, false, List, [], ◌∷◌, ◌++◌, ℕ, ◌+◌, ◌*◌, length}
+use Rattle.std.specs.Prelude.{[], ◌∷◌, ◌++◌, ℕ, ◌+◌}
 use Rattle.def_kinds.specs.Choice.{pick}
 use Rattle.def_state.specs.Plain.{top, empty, drop_last, last_of}
-use Rattle.def_state.specs.World.{Handle, Key, impulse, chain, ContactLink, JointLink, World, Step, done}
+use Rattle.def_state.specs.World.{Handle, Key, ContactLink, World, Step, done}
 use Rattle.def_state.specs.Fields.{places_set, journal_set}
 use Rattle.def_state.specs.Links.{track, contact_pushed, contact_removed, joint_pushed, joint_removed, new_place, take_place, absorb}
 

@@ -3,7 +3,7 @@ use Rattle.std.specs.Prelude.{◌≡◌, List, ℕ, ◌*◌}
 use Rattle.def_kinds.specs.declared.Sizes.{Sizes}
 use Rattle.def_state.specs.World.{Removal, World, Step, done}
 use Rattle.def_state.specs.Resolver.{counted}
-use Rattle.table_meaning.specs.Layout.{Tables, tables, rows_put, Extents, extents}
+use Rattle.table_meaning.specs.Layout.{tables, rows_put, extents}
 use Rattle.table_meaning.specs.Does.{RowsKept}
 use Rattle.core_laws.specs.Steps.{Steps}
 

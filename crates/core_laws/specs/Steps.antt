@@ -1,16 +1,15 @@
 -- The steps that the calls are made of. Each leaves the tables well formed.
-use Rattle.std.specs.Prelude.{◌≡◌, Bool, true, false, List, [], ◌∷◌, ◌++◌, reverse, ℕ, zero, suc, ◌+◌, ◌-◌, ◌*◌, length, get_or, set, eqb}
-use Rattle.list_in_table.specs.Rules.{none}
+use Rattle.std.specs.Prelude.{◌≡◌, Bool, List, [], ◌∷◌, ◌++◌, reverse, ℕ, ◌+◌, ◌*◌, length, set}
 use Rattle.list_in_table.specs.Word.{writes}
 use Rattle.def_kinds.specs.Choice.{pick}
 use Rattle.def_kinds.specs.declared.Sizes.{Sizes}
 use Rattle.def_kinds.specs.Answers.{Done}
 use Rattle.def_state.specs.Plain.{top, empty, drop_last, last_of, swap_remove, place_of}
-use Rattle.def_state.specs.World.{Handle, Body, JointLink, absent_joint, Island, absent_island, World, Step, done, island_at}
+use Rattle.def_state.specs.World.{Handle, Body, absent_joint, absent_island, World, Step, done, island_at}
 use Rattle.def_state.specs.Fields.{bodies_set, islands_set, free_set, places_set, island_set, contacts_set, joints_set}
 use Rattle.def_state.specs.Bodies.{grown}
 use Rattle.def_state.specs.Membership.{clear_pending_split_of, singleton, without, places_of}
-use Rattle.table_meaning.specs.Layout.{Tables, tables, members_put, contacts_put, joints_put, rows_put, scan_put, fit_put, freed_put, elem_words, list_words, Extents, extents}
+use Rattle.table_meaning.specs.Layout.{Tables, tables, members_put, contacts_put, joints_put, rows_put, scan_put, fit_put, freed_put, elem_words, list_words, extents}
 use Rattle.table_meaning.specs.Decode.{flag}
 use Rattle.table_meaning.specs.Does.{Does}
 use Rattle.table_meaning.specs.Larger.{Larger}

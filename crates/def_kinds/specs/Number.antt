@@ -1,5 +1,5 @@
 -- Document 01's number of each answer, and the rig's sizes.
-use Rattle.std.specs.Prelude.{ℕ, Result, Ok, Err}
+use Rattle.std.specs.Prelude.{ℕ, Ok, Err}
 use Rattle.def_kinds.specs.declared.Outcome.TheVariants.{Done, Nothing}
 use Rattle.def_kinds.specs.declared.Refusal.TheVariants.{OverSize, StillLinked, JointsFull, JournalFull, NoIsland, NoScan, TooShort, BadTables, SlotTaken, BadGeneration}
 use Rattle.def_kinds.specs.declared.Sizes.{Sizes}

@@ -1,13 +1,12 @@
 -- The ten sample runs of document 01, A to J, as one table: what is called, and what is then seen; E in two rows. At the rig's sizes.
 use mathlib.Core.Path.{◌≡◌, refl}
-use mathlib.Core.Bool.{Bool, true, false}
+use mathlib.Core.Bool.{true, false}
 use mathlib.Core.List.{List, [], ◌∷◌, ◌++◌, map}
 use Prim.Native.Nat.{ℕ, zero, suc}
-use lib.ListN.{length, get_or}
+use lib.ListN.{length}
 use Rattle.def_kinds.specs.Number.{number, rig}
-use Rattle.def_kinds.specs.Answers.{Answer}
 use Rattle.def_state.specs.Plain.{has, place_of, more}
-use Rattle.def_state.specs.World.{Handle, Island, World, empty_world, named, island_below, island_of, body_island, live}
+use Rattle.def_state.specs.World.{Handle, Island, empty_world, named, island_below, island_of, body_island, live}
 use Rattle.def_state.specs.Fields.{island_set}
 use Rattle.def_state.specs.Bodies.{grown, placed, put, flags, vacate, retire}
 use Rattle.def_state.specs.Membership.{clear_pending_split_of, new_number, alloc_island, may_join, joined, ensure, free_island, left, remove}

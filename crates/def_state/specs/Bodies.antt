@@ -1,8 +1,8 @@
 -- The body table (added): put, flags, retire, and asking a body's island.
-use Rattle.std.specs.Prelude.{Option, Some, None, Result, Ok, Bool, true, false, List, [], ◌∷◌, ◌++◌, ℕ, ◌+◌, ◌-◌, length, get_or, set, replicate, eqb, ltb, leb}
+use Rattle.std.specs.Prelude.{Option, Some, None, Result, Ok, Bool, false, ◌++◌, ℕ, ◌+◌, ◌-◌, length, set, replicate, eqb, ltb, leb}
 use Rattle.def_kinds.specs.Choice.{pick}
 use Rattle.def_kinds.specs.declared.Sizes.{Sizes}
-use Rattle.def_kinds.specs.Answers.{Answer, Done, Nothing, OverSize, SlotTaken, BadGeneration}
+use Rattle.def_kinds.specs.Answers.{Nothing, OverSize, SlotTaken, BadGeneration}
 use Rattle.def_kinds.specs.declared.Island.{Island as IslandNumber}
 use Rattle.def_kinds.specs.declared.Refusal.{Refusal}
 use Rattle.def_state.specs.Plain.{top}

@@ -1,10 +1,10 @@
 -- persistent.rs: refresh_multibody_chain. The old chain is unlinked, then a new one is linked over the given bodies, in order.
-use Rattle.std.specs.Prelude.{Bool, true, false, not, List, [], ◌∷◌, ℕ, zero, suc, ◌+◌, ◌-◌, length, eqb, ltb}
+use Rattle.std.specs.Prelude.{Bool, false, List, [], ◌∷◌, ℕ, zero, suc, ◌+◌, ◌-◌, length, eqb, ltb}
 use Rattle.def_kinds.specs.Choice.{pick}
 use Rattle.def_kinds.specs.declared.Sizes.{Sizes}
 use Rattle.def_kinds.specs.Answers.{JointsFull, JournalFull}
 use Rattle.def_state.specs.Plain.{top}
-use Rattle.def_state.specs.World.{Handle, Key, impulse, chain, World, Step, done, gives, body_of, named}
+use Rattle.def_state.specs.World.{Handle, chain, World, Step, done, gives, body_of, named}
 use Rattle.def_state.specs.Links.{joint_home, joint_room, link_joint, unlink_joint}
 
 -- a body that a chain links: live, enabled and not fixed: flags decide, not membership

@@ -1,5 +1,5 @@
 -- Links between places, the paths that they make, and the label of each place: the least place that a path leads to.
-use Rattle.std.specs.Prelude.{◌≡◌, ◌⊎◌, Bool, true, false, List, [], ◌∷◌, ◌++◌, map, ℕ, zero, suc, min, max, ◌+◌, length, get_or, eqb, ltb}
+use Rattle.std.specs.Prelude.{◌≡◌, ◌⊎◌, Bool, List, [], ◌∷◌, ◌++◌, map, ℕ, zero, suc, min, max, ◌+◌, length, get_or, eqb, ltb}
 use Rattle.def_kinds.specs.Choice.{pick}
 
 -- a link of ls has the ends a and b, in this order or the other

@@ -1,10 +1,10 @@
 -- persistent.rs: link_contact, link_joint, merge_islands, unlink_contact, unlink_joint, journal_removal, contact_edge_removed.
-use Rattle.std.specs.Prelude.{Bool, true, false, ◌&&◌, ◌||◌, not, List, [], ◌∷◌, ◌++◌, map, ℕ, zero, suc, ◌+◌, ◌-◌, length, get_or, set, eqb, ltb, leb}
+use Rattle.std.specs.Prelude.{Bool, false, ◌&&◌, ◌||◌, not, List, [], ◌∷◌, ◌++◌, map, ℕ, zero, suc, ◌+◌, ◌-◌, length, get_or, set, eqb, ltb, leb}
 use Rattle.def_kinds.specs.Choice.{pick}
 use Rattle.def_kinds.specs.declared.Sizes.{Sizes}
 use Rattle.def_kinds.specs.Answers.{Nothing, OverSize, StillLinked, JointsFull, JournalFull}
 use Rattle.def_state.specs.Plain.{top, empty, has, place_of, drop_last, last_of, swap_remove}
-use Rattle.def_state.specs.World.{Handle, Key, impulse, chain, ContactLink, absent_contact, JointLink, absent_joint, Island, absent_island, Removal, World, Step, done, gives, island_at, body_island}
+use Rattle.def_state.specs.World.{Handle, Key, impulse, chain, ContactLink, absent_contact, JointLink, absent_joint, Island, absent_island, World, Step, done, gives, island_at, body_island}
 use Rattle.def_state.specs.Fields.{free_set, tracked_set, places_set, journal_set, island_set, contacts_set, joints_set}
 use Rattle.def_state.specs.Membership.{clear_pending_split_of}
 

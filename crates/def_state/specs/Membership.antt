@@ -1,10 +1,10 @@
 -- persistent.rs: alloc_island, free_island, ensure_body, remove_body; global_split.rs: clear_pending_split_of, which freeing asks.
-use Rattle.std.specs.Prelude.{Bool, true, false, List, [], ◌∷◌, ◌++◌, map, reverse, ℕ, ◌+◌, ◌-◌, length, get_or, set, eqb}
+use Rattle.std.specs.Prelude.{Bool, false, List, [], ◌∷◌, ◌++◌, map, reverse, ℕ, length, eqb}
 use Rattle.std.proofs.Math.Option.{Option, none, some}
 use Rattle.def_kinds.specs.Choice.{pick}
 use Rattle.def_kinds.specs.Answers.{Nothing}
 use Rattle.def_state.specs.Plain.{top, empty, place_of, drop_last, last_of, swap_remove, more}
-use Rattle.def_state.specs.World.{Handle, Body, JointLink, Island, absent_island, World, Step, done, gives, body_of, island_at, named, island_of}
+use Rattle.def_state.specs.World.{Handle, JointLink, Island, absent_island, World, Step, done, gives, body_of, island_at, named, island_of}
 use Rattle.def_state.specs.Fields.{islands_set, free_set, places_set, split_set, island_set}
 
 -- the number that alloc_island gives: the last freed, or the next unused

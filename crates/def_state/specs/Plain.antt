@@ -1,5 +1,5 @@
 -- Plain things: a choice, an empty list, the last element, Rust's Vec::swap_remove.
-use Rattle.std.specs.Prelude.{Bool, true, false, List, [], ◌∷◌, ◌++◌, ℕ, zero, suc, ◌+◌, ◌-◌, length, get_or, set, take, eqb}
+use Rattle.std.specs.Prelude.{Bool, true, false, List, [], ◌∷◌, ℕ, suc, ◌+◌, ◌-◌, length, get_or, set, take, eqb}
 use Rattle.def_kinds.specs.Choice.{pick}
 
 -- the largest number of 32 bits: counts stop there, and it is the number of no slot, no island and no place

@@ -1,9 +1,9 @@
 -- The plain resolver (added): every entry of the journal in order; both handles members of one island: its count rises by 1.
-use Rattle.std.specs.Prelude.{Bool, true, false, ◌&&◌, not, List, [], ◌∷◌, ℕ, eqb}
+use Rattle.std.specs.Prelude.{◌&&◌, not, List, [], ◌∷◌, eqb}
 use Rattle.def_kinds.specs.Choice.{pick}
 use Rattle.def_kinds.specs.Answers.{Nothing}
 use Rattle.def_state.specs.Plain.{top, empty, more}
-use Rattle.def_state.specs.World.{Island, Removal, World, Step, done, gives, island_at, body_island}
+use Rattle.def_state.specs.World.{Removal, World, Step, done, gives, island_at, body_island}
 use Rattle.def_state.specs.Fields.{journal_set, island_set, count_set}
 
 -- one entry

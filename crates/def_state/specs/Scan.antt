@@ -1,9 +1,8 @@
 -- persistent.rs: begin_sleep_scan, observe_body_for_sleep, finish_sleep_scan, mark_island_sleeping. Waking is added.
-use Rattle.std.specs.Prelude.{Bool, true, false, ◌&&◌, ◌||◌, not, List, [], ◌∷◌, ◌++◌, ℕ, zero, suc, ◌+◌, ◌%◌, length, eqb, ltb, leb}
+use Rattle.std.specs.Prelude.{Bool, true, false, ◌&&◌, ◌||◌, not, List, [], ◌∷◌, ℕ, ◌+◌, ◌%◌, length, eqb, ltb, leb}
 use Rattle.def_kinds.specs.Choice.{pick}
 use Rattle.def_kinds.specs.Answers.{Answer, Done, NoIsland, NoScan, TooShort}
-use Rattle.def_state.specs.Plain.{top}
-use Rattle.def_state.specs.World.{Island, Observed, World, Step, done, gives, island_at, live}
+use Rattle.def_state.specs.World.{Observed, World, Step, done, gives, island_at, live}
 use Rattle.def_state.specs.Fields.{scan_set, island_set, sleeping_set}
 use Rattle.def_state.specs.Membership.{clear_pending_split_of}
 

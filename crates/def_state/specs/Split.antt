@@ -13,12 +13,12 @@
 -- - `contact_nodes`, `joint_nodes` (the node that a link goes with) are `link_goal`;
 -- - the three passes from the highest place down are `contacts_leave`, `joints_leave`, `bodies_leave`. `contact_counts` and `joint_counts` only
 --   reserve room: they have no counterpart.
-use Rattle.std.specs.Prelude.{Bool, true, false, not, ◌&&◌, List, [], ◌∷◌, ◌++◌, map, ℕ, zero, suc, ◌+◌, ◌-◌, length, get_or, set, eqb, ltb, leb}
+use Rattle.std.specs.Prelude.{Bool, not, ◌&&◌, List, [], ◌∷◌, ◌++◌, ℕ, zero, suc, ◌+◌, ◌-◌, length, get_or, eqb, ltb, leb}
 use Rattle.std.proofs.Math.Option.{Option, none, some}
 use Rattle.def_kinds.specs.Choice.{pick}
-use Rattle.def_kinds.specs.Answers.{Answer, Done, Nothing, NoIsland}
+use Rattle.def_kinds.specs.Answers.{Nothing, NoIsland}
 use Rattle.def_state.specs.Plain.{top, place_of, swap_remove}
-use Rattle.def_state.specs.World.{Handle, ContactLink, absent_contact, JointLink, absent_joint, Island, absent_island, World, Step, done, gives, island_at, body_island, live}
+use Rattle.def_state.specs.World.{Handle, ContactLink, absent_contact, JointLink, absent_joint, Island, World, Step, done, gives, island_at, body_island, live}
 use Rattle.def_state.specs.Fields.{split_set, island_set, joints_set, members_set}
 use Rattle.def_state.specs.Membership.{new_number, alloc_island}
 use Rattle.def_state.specs.Links.{contact_pushed, contact_removed, joint_pushed, joint_removed}

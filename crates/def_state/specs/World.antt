@@ -1,7 +1,7 @@
 -- The state that the calls are about. The names are those of persistent.rs, with hyphens.
 -- What has no counterpart there: the body table (`bodies`), and the places of the flat key table that stands for the Rust's hash map.
-use Rattle.std.specs.Prelude.{Bool, true, false, ◌&&◌, not, List, [], ◌∷◌, ◌++◌, ℕ, zero, suc, length, get_or, set, eqb, leb}
-use Rattle.std.proofs.Math.Option.{Option, none, some}
+use Rattle.std.specs.Prelude.{Bool, false, not, List, [], ℕ, zero, suc, length, get_or, eqb}
+use Rattle.std.proofs.Math.Option.{Option, none}
 use Rattle.def_kinds.specs.Choice.{pick}
 use Rattle.def_kinds.specs.Answers.{Answer, Done}
 use Rattle.def_state.specs.Plain.{top, has}

@@ -1,6 +1,6 @@
 -- What the rules of a table give of an element and its neighbours.
-use mathlib.Core.Path.{◌≡◌, sym, ◌∙◌}
-use mathlib.Core.Logic.{◌⊎◌, inl, inr, ◌≢◌, ⊎_elim}
+use mathlib.Core.Path.{◌≡◌}
+use mathlib.Core.Logic.{◌≢◌, ⊎_elim}
 use Prim.Native.Nat.{ℕ, ◌+◌, ◌*◌, ◌≤◌, ◌<◌}
 use native.Mathlib.Omega.{arith}
 use native.Mathlib.Decide.{ℕ_discrete}
@@ -8,10 +8,9 @@ use mathlib.Core.List.{List}
 use Prim.Native.Nat.{◌^◌}
 use mir.Val.{Fits}
 use mir.Syntax.{w64}
-use lib.Dec.{lit<}
-use lib.ListN.{length, get_or}
+use lib.ListN.{length}
 use Rattle.list_in_table.specs.Table.{view, RemoveReady}
-use Rattle.list_in_table.specs.Rules.{none, View, Rules, Held, Blank, First, After, Final, Before, Empty, Full}
+use Rattle.list_in_table.specs.Rules.{none, View, Rules, Held, After, Final, Before, Full}
 
 pub either : {A : Type 0} (a b : ℕ) → (a ≡ b → A) → (a ≢ b → A) → A
 either {A} a b f g = go (ℕ_discrete a b)

@@ -1,14 +1,14 @@
 -- The list that a table's links spell: element p of list i is the one whose home is i and whose place is p.
 use mathlib.Core.Path.{◌≡◌, refl, sym, ◌∙◌, ap, subst, subst⁻¹}
-use mathlib.Core.Logic.{◌⊎◌, inl, inr, ◌≢◌, ⊎_elim}
-use Prim.Native.Nat.{ℕ, zero, suc, ◌+◌, ◌-◌, ◌*◌, ◌≤◌, ◌<◌}
+use mathlib.Core.Logic.{⊎_elim}
+use Prim.Native.Nat.{ℕ, zero, suc, ◌+◌, ◌-◌, ◌<◌}
 use native.Mathlib.Omega.{arith}
 use native.Mathlib.Numerals.{add-one}
-use mathlib.Core.List.{List, [], ◌∷◌, ◌++◌}
-use lib.ListN.{length, get_or, set, take, length-set, length-append, get_or-append}
-use lib.Seq.{get_or-set_same, get_or-set_other, get_or_at, ext_get_or, get_or-take, length-take-le}
-use Rattle.list_in_table.specs.Rules.{none, View, Rules, Held, Blank, First, After, Final, Before, Empty, Full, walk, list_of, swap_remove}
-use Rattle.list_in_table.proofs.Laws.{either, held, held_in, full, end}
+use mathlib.Core.List.{List, [], ◌∷◌}
+use lib.ListN.{length, get_or, length-append, get_or-append}
+use lib.Seq.{get_or_at, ext_get_or}
+use Rattle.list_in_table.specs.Rules.{View, Rules, Held, After, Final, Before, Full, walk, list_of}
+use Rattle.list_in_table.proofs.Laws.{either, held_in, full}
 
 -- x is the element of list i at place p
 pub record At (n : ℕ) (S : View) (i p x : ℕ) : Type 0 where

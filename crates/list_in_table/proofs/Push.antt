@@ -1,15 +1,14 @@
 -- An element put last in a list: the rules still hold.
-use mathlib.Core.Path.{◌≡◌, refl, sym, ◌∙◌, ap, subst, subst⁻¹}
+use mathlib.Core.Path.{◌≡◌, sym, ◌∙◌, ap, subst⁻¹}
 use mathlib.Core.Logic.{◌⊎◌, inl, inr, ◌≢◌, ⊎_elim}
-use Prim.Native.Nat.{ℕ, ◌+◌, ◌*◌, ◌≤◌, ◌<◌}
+use Prim.Native.Nat.{ℕ, ◌+◌, ◌≤◌, ◌<◌}
 use native.Mathlib.Omega.{arith}
-use native.Mathlib.Decide.{ℕ_discrete}
-use mathlib.Core.List.{List, [], ◌∷◌, ◌++◌}
+use mathlib.Core.List.{[], ◌∷◌, ◌++◌}
 use lib.ListN.{length, get_or, length-append, get_or-append}
 use lib.Seq.{get_or_at}
-use Rattle.list_in_table.specs.Rules.{none, View, Rules, Held, Blank, First, After, Final, Before, Empty, Full, list_of}
+use Rattle.list_in_table.specs.Rules.{none, View, Rules, Held, Blank, After, Final, Before, Empty, Full, list_of}
 use Rattle.list_in_table.proofs.Order.{At, length-list, list_at, list-is}
-use Rattle.list_in_table.proofs.Laws.{held, held_in, full, either, last-final}
+use Rattle.list_in_table.proofs.Laws.{held_in, either, last-final}
 
 -- what changes between the tables S and S' when e is put last in the list i
 pub record Pushed (n m i e : ℕ) (S S' : View) : Type 0 where

@@ -1,13 +1,13 @@
 -- An element taken out of its list, whose last takes its place: the rules still hold, and the list is swap_remove's.
 use mathlib.Core.Path.{◌≡◌, refl, sym, ◌∙◌, ap, subst, subst⁻¹}
 use mathlib.Core.Logic.{◌⊎◌, inl, inr, ◌≢◌, ⊎_elim}
-use Prim.Native.Nat.{ℕ, ◌+◌, ◌-◌, ◌*◌, ◌≤◌, ◌<◌}
+use Prim.Native.Nat.{ℕ, ◌+◌, ◌-◌, ◌<◌}
 use native.Mathlib.Omega.{arith}
-use mathlib.Core.List.{List, [], ◌∷◌, ◌++◌}
-use lib.ListN.{length, get_or, set, take, length-set, length-take}
-use lib.Seq.{get_or-take, get_or-set_same, get_or-set_other, length-take-le, lt-length-set}
+use mathlib.Core.List.{List}
+use lib.ListN.{length, get_or, set, take, length-set}
+use lib.Seq.{get_or-take, get_or-set_same, get_or-set_other, length-take-le}
 use Rattle.list_in_table.specs.Rules.{none, View, Rules, Held, Blank, First, After, Final, Before, Empty, Full, list_of, swap_remove}
-use Rattle.list_in_table.proofs.Laws.{held, held_in, full, either, last-final, end, before, after-end}
+use Rattle.list_in_table.proofs.Laws.{held_in, either, last-final, end, before, after-end}
 use Rattle.list_in_table.proofs.Order.{At, length-list, list_at, list-of, list-is}
 
 -- what changes in either case

@@ -1,17 +1,17 @@
 -- Two tables that both keep the rules and have the same lists are the same, word for word.
 use mathlib.Core.Path.{◌≡◌, refl, sym, ◌∙◌, ap, subst}
-use mathlib.Core.Logic.{◌⊎◌, inl, inr, ◌≢◌, ⊎_elim}
+use mathlib.Core.Logic.{⊎_elim}
 use Prim.Native.Nat.{ℕ, zero, suc, ◌+◌, ◌-◌, ◌*◌, ◌≤◌, ◌<◌}
 use native.Mathlib.Omega.{arith}
 use mathlib.Core.Bool.{Bool, true, false}
 use lib.Dec.{ltb}
 use borrow.Author.Tests.{ltb-true, ltb-false}
-use mathlib.Core.List.{List, [], ◌∷◌, ◌++◌}
+use mathlib.Core.List.{List}
 use lib.ListN.{length, get_or}
 use lib.Seq.{ext_get_or}
-use Rattle.list_in_table.specs.Rules.{none, View, Rules, Held, Blank, First, After, Final, Before, Empty, Full, list_of}
+use Rattle.list_in_table.specs.Rules.{View, Rules, Held, Blank, First, After, Final, Before, Empty, Full, list_of}
 use Rattle.list_in_table.specs.Table.{view, Wf}
-use Rattle.list_in_table.proofs.Laws.{held, held_in, full, either}
+use Rattle.list_in_table.proofs.Laws.{held_in, either}
 use Rattle.list_in_table.proofs.Order.{At, length-list, list_at, list-of}
 
 pub below : {A : Type 0} (a b : ℕ) → (a < b → A) → (b ≤ a → A) → A

@@ -1,17 +1,16 @@
 -- The table in its words: what each field is after push_last and swap_remove.
-use mathlib.Core.Path.{◌≡◌, refl, sym, ◌∙◌, ap, subst, subst⁻¹}
-use mathlib.Core.Logic.{◌⊎◌, inl, inr, ◌≢◌, ⊎_elim}
-use Prim.Native.Nat.{ℕ, ◌+◌, ◌-◌, ◌*◌, ◌≤◌, ◌<◌}
+use mathlib.Core.Path.{◌≡◌, refl, ◌∙◌}
+use mathlib.Core.Logic.{◌≢◌, ⊎_elim}
+use Prim.Native.Nat.{ℕ, ◌+◌, ◌*◌, ◌<◌}
 use native.Mathlib.Omega.{arith}
 use mathlib.Core.List.{List, [], ◌∷◌, ◌++◌}
 use borrow.Author.Tests.{eq-eqb, ne_eqb}
 use lib.ListN.{length, get_or, set, length-set}
 use lib.Seq.{get_or-set_same, get_or-set_other}
 use Rattle.list_in_table.specs.Word.{writes, Misses, miss, hit, length_writes}
-use Rattle.list_in_table.specs.Rules.{none, View, Rules, Held, Blank, First, After, Final, Before, Empty, Full, list_of}
-use Rattle.list_in_table.specs.Table.{view, Wf, next_set, pushed, removed}
-use Rattle.def_kinds.specs.Choice.{pick}
-use Rattle.list_in_table.proofs.Laws.{either, last_lt, full, held}
+use Rattle.list_in_table.specs.Rules.{none, list_of}
+use Rattle.list_in_table.specs.Table.{view, Wf, next_set, pushed}
+use Rattle.list_in_table.proofs.Laws.{either, last_lt}
 use Rattle.list_in_table.proofs.Push.{Pushed, push-rules, push-list, push-others}
 
 -- a word after next_set

@@ -1,15 +1,14 @@
 -- The table in its words: what each field is after swap_remove.
-use mathlib.Core.Path.{◌≡◌, refl, sym, ◌∙◌, ap, subst, subst⁻¹}
-use mathlib.Core.Logic.{◌⊎◌, inl, inr, ◌≢◌, ⊎_elim}
-use Prim.Native.Nat.{ℕ, ◌+◌, ◌-◌, ◌*◌, ◌≤◌, ◌<◌}
+use mathlib.Core.Path.{◌≡◌, refl, sym, ◌∙◌, ap}
+use mathlib.Core.Logic.{◌≢◌, ⊎_elim}
+use Prim.Native.Nat.{ℕ, ◌+◌, ◌-◌, ◌*◌, ◌<◌}
 use native.Mathlib.Omega.{arith}
-use mathlib.Core.List.{List, [], ◌∷◌, ◌++◌}
+use mathlib.Core.List.{List, [], ◌∷◌}
 use borrow.Author.Tests.{eq-eqb, ne_eqb}
-use lib.ListN.{length, get_or, set, length-set}
+use lib.ListN.{length, get_or, set}
 use Rattle.list_in_table.specs.Word.{writes, Misses, miss, hit, length_writes}
-use Rattle.list_in_table.specs.Rules.{none, View, Rules, Held, Blank, First, After, Final, Before, Empty, Full, list_of, swap_remove}
+use Rattle.list_in_table.specs.Rules.{none, View, Rules, Held, Blank, First, After, Before, Full, list_of, swap_remove}
 use Rattle.list_in_table.specs.Table.{view, Wf, next_set, removed}
-use Rattle.def_kinds.specs.Choice.{pick}
 use Rattle.list_in_table.proofs.Laws.{either, held, held_in, end, before, after-end, prev_lt, last-final}
 use Rattle.list_in_table.proofs.Words.{next-other, next_same, length-next}
 use Rattle.list_in_table.proofs.Remove.{Removed, RemovedEnd, RemovedIn, end-rules, in-rules, remove-others, remove-list}

@@ -1,5 +1,5 @@
 -- A table in one list of words: element e's record is the four words at b + 4 * e, list i's the two at z + 2 * i.
-use Rattle.std.specs.Prelude.{◌≡◌, ◌⊎◌, ◌≢◌, ℕ, ◌+◌, ◌-◌, ◌*◌, ◌≤◌, ◌<◌, List, [], ◌∷◌, ◌++◌, Bool, true, false, length, get_or, set, eqb}
+use Rattle.std.specs.Prelude.{◌≡◌, ◌≢◌, ℕ, ◌+◌, ◌-◌, ◌*◌, ◌≤◌, ◌<◌, List, [], ◌∷◌, length, get_or, set, eqb}
 use Rattle.list_in_table.specs.Word.{writes}
 use Rattle.list_in_table.specs.Rules.{none, View, Rules}
 use Rattle.def_kinds.specs.Choice.{pick}

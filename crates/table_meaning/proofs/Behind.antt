@@ -1,16 +1,15 @@
 -- A removal stores nothing behind the extents.
-use mathlib.Core.Path.{◌≡◌, refl, sym, ◌∙◌, ap, subst}
-use mathlib.Core.Logic.{◌⊎◌, inl, inr, ◌≢◌, ⊎_elim}
-use Prim.Native.Nat.{ℕ, zero, suc, ◌+◌, ◌-◌, ◌*◌, ◌≤◌, ◌<◌}
+use mathlib.Core.Path.{◌≡◌, ◌∙◌}
+use mathlib.Core.Logic.{◌⊎◌, ◌≢◌, ⊎_elim}
+use Prim.Native.Nat.{ℕ, ◌+◌, ◌-◌, ◌*◌, ◌≤◌, ◌<◌}
 use native.Mathlib.Omega.{arith}
-use mathlib.Core.List.{List, [], ◌∷◌, ◌++◌}
+use mathlib.Core.List.{List, [], ◌∷◌}
 use borrow.Author.Tests.{eq-eqb, ne_eqb}
-use lib.ListN.{length, get_or, set}
-use lib.Seq.{get_or-set_same, get_or-set_other}
-use Rattle.list_in_table.specs.Rules.{none, View}
-use Rattle.list_in_table.specs.Word.{writes, Misses, miss}
-use Rattle.list_in_table.specs.Table.{view, Wf, removed, next_set, RemoveReady}
-use Rattle.def_kinds.specs.Choice.{pick}
+use lib.ListN.{get_or, set}
+use lib.Seq.{get_or-set_other}
+use Rattle.list_in_table.specs.Rules.{none}
+use Rattle.list_in_table.specs.Word.{writes, miss}
+use Rattle.list_in_table.specs.Table.{removed, next_set, RemoveReady}
 use Rattle.list_in_table.proofs.Laws.{either, known, inner, Known, Inner}
 use Rattle.list_in_table.proofs.Words.{next-other}
 

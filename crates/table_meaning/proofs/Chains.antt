@@ -1,19 +1,18 @@
 -- What a step does to a chain table, whichever it is: an element or a list comes into use, an element is put last in a list, an element is taken out.
-use mathlib.Core.Path.{◌≡◌, refl, sym, ◌∙◌, ap, subst}
+use mathlib.Core.Path.{◌≡◌, refl, sym, ◌∙◌, subst}
 use mathlib.Core.Logic.{◌⊎◌, inl, inr, ◌≢◌, ⊎_elim}
-use Prim.Native.Nat.{ℕ, zero, suc, ◌+◌, ◌-◌, ◌*◌, ◌≤◌, ◌<◌}
+use Prim.Native.Nat.{ℕ, ◌+◌, ◌*◌, ◌≤◌, ◌<◌}
 use native.Mathlib.Omega.{arith}
 use mathlib.Core.List.{List, [], ◌∷◌, ◌++◌}
-use lib.ListN.{length, get_or, set, length-set}
-use Rattle.list_in_table.specs.Rules.{none, View, Rules, Blank, Empty, list_of, swap_remove}
-use Rattle.list_in_table.specs.Word.{writes, Misses, miss, hit, length_writes}
+use lib.ListN.{length, get_or}
+use Rattle.list_in_table.specs.Rules.{none, Blank, Empty, list_of, swap_remove}
+use Rattle.list_in_table.specs.Word.{writes, miss, hit, length_writes}
 use Rattle.list_in_table.specs.Table.{view, Wf, pushed, removed, PushReady, RemoveReady}
-use Rattle.list_in_table.proofs.Laws.{either, last_lt}
+use Rattle.list_in_table.proofs.Laws.{last_lt}
 use Rattle.list_in_table.proofs.Order.{length-list}
 use Rattle.list_in_table.proofs.Words.{next-other, length-pushed, push-view, push-wf, push-lists-i, push-lists-o}
 use Rattle.list_in_table.proofs.Push.{Pushed}
 use Rattle.list_in_table.proofs.WordsRemove.{remove-kept}
-use Rattle.list_in_table.proofs.WordsRemove as words
 use Rattle.table_meaning.specs.Layout.{elem_words, list_words}
 use Rattle.table_meaning.specs.Does.{ChainKept}
 use Rattle.table_meaning.proofs.More.{Agrees, rules-more, list_same}

@@ -1,11 +1,10 @@
 -- What lies behind the extents: kept by nothing, by one change after another, and by a change of one table.
-use mathlib.Core.Path.{◌≡◌, refl, sym, ◌∙◌, ap, subst}
+use mathlib.Core.Path.{◌≡◌, refl, sym, ◌∙◌, subst}
 use mathlib.Core.List.{List}
-use Prim.Native.Nat.{ℕ, ◌+◌, ◌*◌, ◌≤◌, ◌<◌}
+use Prim.Native.Nat.{ℕ, ◌*◌}
 use native.Mathlib.Omega.{arith}
-use lib.ListN.{length, get_or}
+use lib.ListN.{length}
 use Rattle.def_kinds.specs.declared.Sizes.{Sizes}
-use Rattle.def_state.specs.World.{World}
 use Rattle.table_meaning.specs.Layout.{Tables, tables, total, Extents, extents, head_put, slots_put, members_put, rows_put, freed_put, contacts_put, touches_put, joints_put, keys_put, spare_put, journal_put, scan_put, fit_put}
 use Rattle.table_meaning.specs.Decode.{decode, world_of}
 use Rattle.table_meaning.specs.Sound.{Good, Sound}

@@ -1,11 +1,11 @@
 -- A list table that agrees with one in its n elements and m lists, and is blank in the elements and lists taken in, keeps the rules and has the same lists.
 use mathlib.Core.Path.{◌≡◌, refl, sym, ◌∙◌, ap, subst}
-use mathlib.Core.Logic.{◌⊎◌, inl, inr, ◌≢◌, ⊎_elim}
-use Prim.Native.Nat.{ℕ, zero, suc, ◌+◌, ◌-◌, ◌*◌, ◌≤◌, ◌<◌}
+use mathlib.Core.Logic.{◌⊎◌, inl, inr, ⊎_elim}
+use Prim.Native.Nat.{ℕ, zero, suc, ◌+◌, ◌≤◌, ◌<◌}
 use native.Mathlib.Omega.{arith}
 use mathlib.Core.List.{List, [], ◌∷◌, ◌++◌}
 use Rattle.list_in_table.specs.Rules.{none, View, Rules, Held, Blank, First, After, Final, Before, Empty, Full, walk, list_of}
-use Rattle.list_in_table.proofs.Laws.{either, held_in}
+use Rattle.list_in_table.proofs.Laws.{held_in}
 use Rattle.list_in_table.proofs.Same.{below}
 
 pub record Agrees (n m : ℕ) (S S' : View) : Type 0 where

@@ -5,7 +5,7 @@
 --
 -- In use are the slots, islands, edges, joint places and journal entries below the extents in the head. An entry in use that holds nothing is blank as
 -- said below; what lies behind an extent is no part of the state: nobody reads it, and no call changes it but by taking it in.
-use Rattle.std.specs.Prelude.{List, [], ◌∷◌, ℕ, ◌+◌, ◌*◌, length, get_or}
+use Rattle.std.specs.Prelude.{List, [], ◌∷◌, ℕ, ◌+◌, ◌*◌, get_or}
 use Rattle.list_in_table.specs.Rules.{none, View}
 use Rattle.list_in_table.specs.Table.{view}
 use Rattle.list_in_buffer.specs.Part.{part}

@@ -1,7 +1,7 @@
 -- Well formed tables.
-use Rattle.std.specs.Prelude.{◌≡◌, ◌⊎◌, ◌≢◌, List, ℕ, ◌+◌, ◌*◌, ◌≤◌, ◌<◌, length, get_or}
-use Rattle.list_in_table.specs.Rules.{none, View}
-use Rattle.list_in_table.specs.Table.{view, Wf}
+use Rattle.std.specs.Prelude.{◌≡◌, ◌≢◌, List, ℕ, ◌+◌, ◌*◌, ◌≤◌, ◌<◌, length, get_or}
+use Rattle.list_in_table.specs.Rules.{none}
+use Rattle.list_in_table.specs.Table.{Wf}
 use Rattle.def_kinds.specs.declared.Sizes.{Sizes}
 use Rattle.table_meaning.specs.Layout.{Tables, tables, total, Extents, extents, members_in, contacts_in, joints_in, freed_in, spare_in, scan_in}
 use Rattle.table_meaning.specs.Rule.{SlotRule, IslandRule, ScanRule, EdgeRule, JointRule, HeadRule}

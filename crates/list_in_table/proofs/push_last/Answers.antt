@@ -1,5 +1,4 @@
 -- `list_in_table::push_last` meets its contract. Each index is below the length by the sizes of the table; the list's old last by the rules. Assumes nothing.
-use borrow.Author.Rules.{rules}
 use native.Mathlib.Omega.{arith}
 use Rattle.list_in_table.specs.Table.{pushed}
 use Rattle.list_in_table.proofs.Pigeon.{count-lt}

@@ -1,4 +1,5 @@
-// Is a chain table well formed? A test of each element and each list by its neighbours alone.
+// Is a chain table well formed? A test of each element and each list by its neighbours alone. Where an index is next, what it asks is a guard before it.
+// NONE, no element and no list, is a word of the tables that the host lends (the C interface), so it is compared as it stands.
 #![tactic(auto)]
 
 ghost use Rattle.std.specs.Prelude.{◌≡◌, ◌≢◌, ◌⊎◌, ℕ, ◌+◌, ◌*◌, ◌<◌, ◌≤◌, length, get_or};

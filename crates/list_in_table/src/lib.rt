@@ -1,4 +1,5 @@
 // Lists through a table of words: an element is put last, or taken out by swap removal.
+// NONE, no element and no list, is a word of the tables that the host lends (the C interface), so it is compared as it stands.
 #![tactic(auto)]
 
 ghost use Rattle.std.specs.Prelude.{◌≡◌, ◌≢◌, ℕ, ◌+◌, ◌*◌, ◌<◌, ◌≤◌, length, get_or};

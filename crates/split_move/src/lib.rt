@@ -11,7 +11,7 @@ ghost use Rattle.split_move.specs.Shift.{node_at, ContactMoved, JointMoved, Body
 use def_kinds::{Handle, NONE, Sizes, Slot};
 use table_meaning::{Table, word};
 
-// node_of: the place of the body that the handle names among the bodies of the island i, where it is a member of i.
+// node_of: the place of the body that the handle names among the bodies of the island i, where it is a member of i. NONE is a word of the tables (the C interface).
 pub fn node_at(t: &[u32], z: Sizes, i: u32, h: Handle) -> Option<u32>
     requires { (length t.now ≡ total z) × ((extents (tables z t.now)).slots ≤ z.slots) }
     ensures { MatchOption result (node_at z (tables z t.now) i (handle h.slot.0 h.generation) ≡ none) (λ p. (p ≡ node_at z (tables z t.now) i (handle h.slot.0 h.generation)) × (p ≢ none)) }

@@ -1,4 +1,5 @@
 // The audit of the whole buffer, on any words: the rules of each entry, the chain tables, the head, and no key twice.
+// NONE, no number, is a word of the tables that the host lends (the C interface), so it is compared as it stands.
 // The words and their sizes are lent as two: where a struct lent both, each promise would say x.entry.words.now for t.now.
 #![tactic(auto)]
 

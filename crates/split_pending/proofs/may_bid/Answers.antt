@@ -13,12 +13,6 @@ use Rattle.split_pending.proofs.may_bid.Goals as goal
 pub returns-then-not-is_live : goal.returns-then-not-is_live
 returns-then-not-is_live c = bid-dead c.args.i c.requires (sym c.is_live.ensures.says ∙ c.if-not-is_live.true)
 
-pub get-removals-requires : goal.get-removals-requires
-get-removals-requires c = (let l = (c.is_live.ensures.lives c.if-not-is_live.false).in_use in let b = c.requires.good.islands_le in (c.requires.long, omega arith))
-
-pub get-until-requires : goal.get-until-requires
-get-until-requires c = (let l = (c.is_live.ensures.lives c.if-not-is_live.false).in_use in let b = c.requires.good.islands_le in (c.requires.long, omega arith))
-
 pub returns-then-removals-ne0 : goal.returns-then-removals-ne0
 returns-then-removals-ne0 c =
     let L = c.is_live.ensures.lives c.if-not-is_live.false in

@@ -1,4 +1,3 @@
-use native.Mathlib.Omega.{arith}
 use mathlib.Core.Path.{sym, ◌∙◌}
 use Rattle.split_pending.proofs.Pending.{cleared-steps, run_none, run-dead, run-asleep, run-done}
 use Rattle.split_pending.proofs.run_on.Goals as goal
@@ -12,20 +11,11 @@ is_live-requires c = (cleared-steps c.requires.0 c.set_all.ensures).does.sound
 pub returns-then-not-is_live : goal.returns-then-not-is_live
 returns-then-not-is_live c = run-dead c.requires.0 c.in-Some.i c.in-Some.ensures.0 c.in-Some.ensures.1 (cleared-steps c.requires.0 c.set_all.ensures) (sym c.is_live.ensures.says ∙ c.if-not-is_live.true)
 
-pub get-asleep-requires : goal.get-asleep-requires
-get-asleep-requires c = (let l = (c.is_live.ensures.lives c.if-not-is_live.false).in_use in let b = (cleared-steps c.requires.0 c.set_all.ensures).does.sound.good.islands_le in ((cleared-steps c.requires.0 c.set_all.ensures).does.sound.long, omega arith))
-
 pub returns-then-asleep-eq1 : goal.returns-then-asleep-eq1
 returns-then-asleep-eq1 c = run-asleep c.requires.0 c.in-Some.i c.in-Some.ensures.0 c.in-Some.ensures.1 (cleared-steps c.requires.0 c.set_all.ensures) (c.is_live.ensures.lives c.if-not-is_live.false) (sym c.get-asleep.ensures.0 ∙ c.if-asleep-eq1.true)
 
-pub count-bodies-requires : goal.count-bodies-requires
-count-bodies-requires c = (let l = (c.is_live.ensures.lives c.if-not-is_live.false).in_use in let b = (cleared-steps c.requires.0 c.set_all.ensures).does.sound.good.islands_le in ((cleared-steps c.requires.0 c.set_all.ensures).does.sound.long, omega arith))
-
 pub split_live-requires : goal.split_live-requires
 split_live-requires c = record { sound = (cleared-steps c.requires.0 c.set_all.ensures).does.sound; lives = (c.is_live.ensures.lives c.if-not-is_live.false); few = c.requires.1; bodies = c.count-bodies.ensures.0 }
-
-pub shape_of-t : goal.shape_of-t
-shape_of-t c = c.split_live.ensures.does.sound.long ∙ sym c.requires.0.long
 
 pub returns : goal.returns
 returns c = run-done c.requires.0 c.in-Some.i c.in-Some.ensures.0 c.in-Some.ensures.1 (cleared-steps c.requires.0 c.set_all.ensures) (c.is_live.ensures.lives c.if-not-is_live.false) (λ e. c.if-asleep-eq1.false (c.get-asleep.ensures.0 ∙ e)) c.split_live.ensures

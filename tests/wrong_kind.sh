@@ -19,7 +19,7 @@ if ! echo "$said" | grep -q '^test is_compiled \.\.\. ok$'; then
     echo "$said" | tail -5 >&2
     exit 1
 fi
-sed -i 's/let a = host_calls::split(t, Island(island));/let a = host_calls::split(t, Edge(island));/' "$code"
+sed -i 's/host_calls::split(t, Island(island))/host_calls::split(t, Edge(island))/' "$code"
 said=$(tried)
 if echo "$said" | grep -q 'expected `Island`, found `Edge`'; then
     echo "an edge for an island: refused by the compiler: expected \`Island\`, found \`Edge\`"

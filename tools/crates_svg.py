@@ -18,7 +18,7 @@ LAYERS = [
     ("theorems", ("theorem_",)),
     ("lesson, test", ("lesson", "test_")),
 ]
-KIT = {"libc", "io", "os", "check", "bytes"}
+KIT = {"arrayvec", "bytes", "check", "io", "libc", "os"}
 BOX_W, BOX_H, GAP_Y, LEFT, WIDTH, PER_ROW = 118, 24, 34, 150, 1200, 7
 # where a row of one box stands, in turn, so that arrows do not run through boxes
 ALONE = (0.3, 0.7, 0.45, 0.85, 0.15, 0.6)

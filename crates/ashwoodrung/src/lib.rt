@@ -22,12 +22,14 @@ ghost use Rattle.ashwoodrung.specs.Told.{is_set, packed, island_word, island_tol
 
 use def_kinds::{Edge, Flags, Handle, Island, JointKey, NONE, Refusal, Slot, number};
 
+// C's flag; the name of a definition that the contracts cite.
 fn is_set(x: u32) -> bool
     ensures { result ≡ is_set x }
 {
     x != 0
 }
 
+// C's 64 bits:
 // An answer and its value in one number of 64 bits; a refusal has the value `otherwise`.
 fn both(answer: Result<u32, Refusal>, otherwise: u32) -> u64
     ensures { result ≡ packed (number (answer_of answer)) (result_unwrap_or answer otherwise) }

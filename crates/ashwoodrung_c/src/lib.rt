@@ -1,3 +1,4 @@
+// A static library can be no dependency, so its calls stand in the crate ashwoodrung too, which theorem_calls speaks of.
 // The exports for C, of the static library libashwoodrung.a: each calls the call of its name in the crate ashwoodrung, with that call's promise.
 // include/ashwoodrung.h says what each call means.
 #![tactic(auto)]

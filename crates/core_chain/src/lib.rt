@@ -34,6 +34,7 @@ fn old_length(t: &[u32], z: Sizes, multibody: u64) -> u32
 }
 
 // The k-th handle of a list that has two words a handle.
+// By places, as `handles_from` is.
 fn handle_in(list: &[u32], k: usize) -> Handle
     requires { 2 * k + 1 < length list.now }
     ensures { (result.slot.0 ≡ get_or list.now (2 * k) 0) × (result.generation ≡ get_or list.now (2 * k + 1) 0) }
@@ -119,6 +120,7 @@ pub fn refresh_on(t: &mut [u32], z: Sizes, multibody: u64, list: &[u32]) -> Answ
         return Err(Refusal::JointsFull);
     }
     let old = old_length(t, z, multibody);
+    // A length fits 64 bits, and std has no From for it.
     let new = count_chainable(t, z, list) as u64;
     let room = u64::from(core_joint::joint_room(t, z));
     if room + u64::from(old) + 1 < new {

@@ -121,6 +121,7 @@ pub fn push_entry(t: &mut [u32], z: Sizes, first: Handle, second: Handle)
 }
 
 // unlink_contact, on sound tables. A link from a body to itself is not journalled.
+// Not one function with core_joint::unlink_joint_on: what goes in between is another list's, and so is the promise.
 pub fn unlink_contact_on(t: &mut [u32], z: Sizes, e: u32) -> Answer
     requires { Sound z t.old }
     ensures { Does z (unlink_contact z e) t.old result t.new }

@@ -58,6 +58,7 @@ pub fn grow_island(t: &mut [u32], z: Sizes, m: u32)
 }
 
 // There is a free number: the next unused one comes in where the stack is empty.
+// Not one function with core_joint::ready_place: each promises another table's step.
 pub fn make_ready(t: &mut [u32], z: Sizes)
     requires { Loosely z t.old × ((freed_in z (tables z t.old)).count 0 ≡ 0 → ((extents (tables z t.old)).islands < z.islands) × ((extents (tables z t.old)).islands < none)) }
     ensures { MadeReady z t.old t.new }

@@ -35,6 +35,7 @@ fn count_restful(t: &[u32], z: Sizes) -> u32
     let mut island = table_words::last(t, z, Table::Scan, 0);
     let mut found: u32 = 0;
     // One turn for each island in the scan's list, from the last to the first: at most as many as there are islands.
+    // The walk goes by the words of the tables from one island to the one before it: the invariant is about how many are left.
     for _ in 0..waiting {
         if may_sleep(t, z, island) {
             found += 1;

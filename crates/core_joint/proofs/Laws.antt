@@ -16,17 +16,25 @@ use Rattle.table_meaning.specs.Decode.{handle_at}
 use Rattle.table_meaning.specs.declared.KeyWords.{KeyWords}
 use Rattle.table_meaning.specs.Keys.{words_of}
 use Rattle.table_meaning.specs.Layout.{Tables, extents}
-use Rattle.core_laws.specs.Places.{LinkedAs, PlaceHas, NoPlaceHas}
+use Rattle.core_laws.specs.Places.{LinkedAs, KeyAt, Unlinked, PlaceHas, NoPlaceHas}
 
 -- the place p is linked, with the key of these words
 abbrev Linked : Sizes → Tables → KeyWords → ℕ → Type 0
 Linked Z T w p = LinkedAs Z T w.kind w.first w.second w.third p
 
-pub placed : (Z : Sizes) (T : Tables) (key : JointKey) {w : KeyWords} {n : ℕ} → w ≡ words_of key → n ≡ (extents T).joints → (r : Option ℕ)
+-- the search by these words found r
+abbrev pub Searched : Sizes → Tables → KeyWords → Option ℕ → Type 0
+Searched Z T w r = MatchOption r (Unlinked Z T w.kind w.first w.second w.third) (KeyAt Z T w.kind w.first w.second w.third)
+
+pub placed : (Z : Sizes) (T : Tables) (w : KeyWords) {n : ℕ} → n ≡ (extents T).joints → (r : Option ℕ)
     → MatchOption r ((k : ℕ) → 0 ≤ k → k < n → Linked Z T w k → ⊥) (λ p. (0 ≤ p) × (p < n) × Linked Z T w p × ((k : ℕ) → 0 ≤ k → k < p → Linked Z T w k → ⊥))
-    → MatchOption r (NoPlaceHas Z T key) (PlaceHas Z T key)
-placed Z T key e l None h = λ k kl a. h k (omega arith) (omega arith) (subst (λ (x : KeyWords). Linked Z T x k) (sym e) a)
-placed Z T key e l (Some p) h = record { place_lt = omega (arith, h.1); keyed = subst (λ (x : KeyWords). Linked Z T x p) e h.2 }
+    → Searched Z T w r
+placed Z T w l None h = λ k kl a. h k (omega arith) (omega arith) a
+placed Z T w l (Some p) h = record { place_lt = omega (arith, h.1); keyed = h.2 }
+
+-- by the words of a key
+pub keyed : (Z : Sizes) (T : Tables) (key : JointKey) {w : KeyWords} → w ≡ words_of key → (r : Option ℕ) → Searched Z T w r → MatchOption r (NoPlaceHas Z T key) (PlaceHas Z T key)
+keyed Z T key e r h = subst (λ (x : KeyWords). Searched Z T x r) e h
 
 -- the handles at j and k are one body where the words that were read are
 pub ends-are : (x : List ℕ) (j k : ℕ) {r : Bool} (a b c d : ℕ) → (a ≡ get_or x j 0) × (b ≡ get_or x (j + 1) 0) → (c ≡ get_or x k 0) × (d ≡ get_or x (k + 1) 0) → r ≡ (eqb a c && eqb b d)

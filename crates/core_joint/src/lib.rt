@@ -12,7 +12,7 @@ ghost use Rattle.table_meaning.specs.Sound.{Sound};
 ghost use Rattle.table_meaning.specs.Does.{Does};
 ghost use Rattle.core_laws.specs.Steps.{handle, Steps};
 ghost use Rattle.core_laws.specs.Linking.{place_ready, joint_push};
-ghost use Rattle.core_laws.specs.Places.{LinkedAs, PlaceHas, NoPlaceHas, grow_place};
+ghost use Rattle.core_laws.specs.Places.{LinkedAs, PlaceHas, NoPlaceHas, grow_place, Unlinked, KeyAt};
 ghost use Rattle.core_laws.specs.Loose.{Loosely, JointGone};
 
 use def_kinds::{Answer, Handle, JointKey, NONE, Outcome, Refusal, Sizes};
@@ -21,6 +21,7 @@ use table_meaning::{KeyWords, Table, word};
 // ---- which place has a key
 
 // Is the place p linked, with the key of these words?
+// The name of a definition that the promises cite.
 fn is_keyed(t: &[u32], z: Sizes, p: u32, key: KeyWords) -> bool
     requires { (length t.now ≡ total z) × (p < z.joints) }
     ensures { Is result (LinkedAs z (tables z t.now) key.kind key.first key.second key.third p) }
@@ -29,15 +30,22 @@ fn is_keyed(t: &[u32], z: Sizes, p: u32, key: KeyWords) -> bool
     table_words::key_at(t, z, p) == key && table_words::home(t, z, Table::Joints, p) != NONE
 }
 
+// The linked place with these words for its key, if there is one.
+pub fn find_words(t: &[u32], z: Sizes, key: KeyWords) -> Option<u32>
+    requires { Sound z t.now }
+    ensures { MatchOption result (Unlinked z (tables z t.now) key.kind key.first key.second key.third) (KeyAt z (tables z t.now) key.kind key.first key.second key.third) }
+{
+    let in_use = table_words::get(t, z, Table::Head, word::JOINTS_USED);
+    // One turn for each joint place in use.
+    (0..in_use).find(|p| is_keyed(t, z, *p, key))
+}
+
 // The linked place with this key, if there is one.
 pub fn find_place(t: &[u32], z: Sizes, key: JointKey) -> Option<u32>
     requires { Sound z t.now }
     ensures { MatchOption result (NoPlaceHas z (tables z t.now) key) (PlaceHas z (tables z t.now) key) }
 {
-    let in_use = table_words::get(t, z, Table::Head, word::JOINTS_USED);
-    let words = KeyWords::from(key);
-    // One turn for each joint place in use.
-    (0..in_use).find(|p| is_keyed(t, z, *p, words))
+    find_words(t, z, KeyWords::from(key))
 }
 
 // ---- a free place
@@ -85,6 +93,7 @@ pub fn grow_place(t: &mut [u32], z: Sizes, p: u32)
 }
 
 // There is a free place: the next unused one comes in where none is free.
+// Not one function with core_ensure::make_ready: each promises another table's step.
 pub fn ready_place(t: &mut [u32], z: Sizes)
     requires { Sound z t.old × ((spare_in z (tables z t.old)).count 0 ≡ 0 → ((extents (tables z t.old)).joints < z.joints) × ((extents (tables z t.old)).joints < none)) }
     ensures { Steps z place_ready t.old t.new }
@@ -152,6 +161,7 @@ pub fn take_joint(t: &mut [u32], z: Sizes, p: u32)
 }
 
 // unlink_joint, on sound tables. A link from a body to itself is not journalled.
+// Not one function with core_contact::unlink_contact_on: what goes in between is another list's, and so is the promise.
 pub fn unlink_joint_on(t: &mut [u32], z: Sizes, key: JointKey) -> Answer
     requires { Sound z t.old }
     ensures { Does z (unlink_joint z (key_is key)) t.old result t.new }

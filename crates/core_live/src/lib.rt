@@ -24,6 +24,7 @@ pub fn pending(t: &[u32], z: Sizes) -> Option<u32>
     requires { length t.now ≡ total z }
     ensures { MatchOption result (get_or (tables z t.now).head 5 0 ≢ 1) (λ i. (get_or (tables z t.now).head 5 0 ≡ 1) × (i ≡ get_or (tables z t.now).head 6 0)) }
 {
+    // A flag is a word of the head, which C reads.
     if table_words::get(t, z, Table::Head, word::IS_PENDING) == 1 {
         Some(table_words::get(t, z, Table::Head, word::PENDING))
     } else {

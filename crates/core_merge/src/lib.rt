@@ -11,6 +11,7 @@ use def_kinds::Sizes;
 use table_meaning::{Table, word};
 
 // Counts add, and stop at the largest number.
+// The name of the definition.
 pub fn add_counts(a: u32, b: u32) -> u32
     ensures { result ≡ add_counts a b }
 {

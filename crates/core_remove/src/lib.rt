@@ -17,6 +17,7 @@ use def_kinds::{Answer, Handle, Island, NONE, Outcome, Refusal, Sizes};
 use table_meaning::{Table, word};
 
 // The last contact link of the island i goes.
+// Not core_contact::take_contact, whose promise is about tables in the middle of a split: here the last link goes, and the list is one shorter.
 fn drop_contact(t: &mut [u32], z: Sizes, i: u32)
     requires { Sound z t.old × (i < (extents (tables z t.old)).islands) × (0 < (contacts_in z (tables z t.old)).count i) }
     ensures { Dropped z i t.old t.new }

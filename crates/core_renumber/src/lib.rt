@@ -16,6 +16,7 @@ use list_in_buffer::Part;
 use table_meaning::{Table, word};
 
 // In the table p: the element from, the last in use, hands its place in its list to the element to, which is in no list.
+// As list_in_buffer's, of a step that only this crate makes.
 pub fn rename_in(t: &mut [u32], p: Part, ends: usize, from: u32, to: u32)
     requires { (p.at + p.long ≤ length t.old) × RenameReady (part t.old p.at p.long) 0 ends from to }
     ensures { Put p.at p.long t.old t.new (renamed (part t.old p.at p.long) 0 ends from to) }

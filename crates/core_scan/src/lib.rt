@@ -18,6 +18,7 @@ pub fn scan_of(t: &[u32], z: Sizes) -> Scan
     ensures { ScanIs z t.now result }
 {
     let stamp = table_words::get(t, z, Table::Head, word::STAMP);
+    // A flag is a word of the head, which C reads.
     let open = table_words::get(t, z, Table::Head, word::SCAN_OPEN) == 1;
     let waiting = table_words::count(t, z, Table::Scan, 0);
     Scan {

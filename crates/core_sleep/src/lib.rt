@@ -34,6 +34,7 @@ pub fn sleep_on(t: &mut [u32], z: Sizes, i: u32) -> Answer
 }
 
 // An island wakes, on sound tables.
+// Not one function with sleep_on: waking leaves a pending split, as its definition does.
 pub fn wake_on(t: &mut [u32], z: Sizes, i: u32) -> Answer
     requires { Sound z t.old }
     ensures { Does z (wake_island i) t.old result t.new }

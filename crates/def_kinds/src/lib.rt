@@ -17,7 +17,8 @@ pub struct Island(pub u32);
 #[derive(Clone, Copy, Debug, PartialEq, Eq)]
 pub struct Edge(pub u32);
 
-// A body: its slot, and which of the slot's bodies it is.
+// A body: its slot, and which of the slot's bodies it is. A link's two bodies stay two arguments: the definitions and C name them one by one, and a struct of
+// the two would say ends.first in each promise.
 #[derive(Clone, Copy, Debug, PartialEq, Eq)]
 pub struct Handle {
     pub slot: Slot,
@@ -108,7 +109,7 @@ impl From<Refusal> for u32 {
     }
 }
 
-// The number of an answer, as the definition `number` has it.
+// The number of an answer, as the definition `number` has it: the name that the contracts cite.
 pub fn number(answer: Answer) -> u32
     ensures { result ≡ number answer }
 {
@@ -156,6 +157,8 @@ impl Scan {
 }
 
 // How much of each thing there is room for. All tables, definitions and proofs are over these.
+// Words and sizes (t, z) go side by side and not in a struct: a function that is lent the struct to change owes two clauses more, that the words are the
+// same loan and that the sizes stay (docs/DESIGN-PASS.md).
 #[derive(Clone, Copy)]
 pub struct Sizes {
     pub slots: u32,

@@ -1,3 +1,4 @@
+// Each is a call over the one at any sizes (sized.rt), two of which have a `requires`, and a host call has none.
 // The host calls, at the rig's sizes and in the named types: each audits the buffer first, and none has a `requires`. At any sizes: sized.rt.
 #![tactic(auto)]
 

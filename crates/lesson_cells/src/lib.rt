@@ -34,8 +34,8 @@ impl<const WIDTH: usize> Table<WIDTH> {
         let words = self.from(t, e);
         let mut row = [0; WIDTH];
         // One turn for each word of the entry.
-        for field in 0..WIDTH {
-            row[field] = word(words, field);
+        for (field, cell) in row.iter_mut().enumerate() {
+            *cell = word(words, field);
         }
         row
     }

@@ -50,6 +50,7 @@ pub struct BadLine;
 
 // Reads a line; an empty one and a comment have no command. Its numbers of 32 bits go into `list`: one of 65,536 words has room
 // for those of the longest line.
+// No heap: the room for the numbers of a line is lent.
 pub fn parse<'a>(line: &[u8], list: &'a mut [u32]) -> Result<Option<Command<'a>>, BadLine>
     ensures empty { length line.now ≡ 0 → result ≡ Ok None }
     ensures comment { get_or line.now 0 0 ≡ 35 → result ≡ Ok None }

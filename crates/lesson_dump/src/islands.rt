@@ -1,30 +1,23 @@
 // The islands as text.
-ghost use Rattle.std.specs.Prelude.{◌≤◌, ◌≡◌, ◌+◌, ◌*◌};
+ghost use Rattle.std.specs.Prelude.{◌≡◌, ◌+◌, ◌*◌};
 
 use crate::{State, layout};
 use std::fmt;
 use std::fmt::Write;
 
 impl State<'_> {
-    // How many island numbers there are to look at.
-    fn islands_used(self) -> u32
-        ensures { result ≤ 4096 }
-    {
-        self.word(layout::ISLANDS_USED).min(layout::ISLANDS)
-    }
-
     fn is_live(self, island: u32) -> bool {
         self.count(layout::MEMBERS, island) != 0
     }
 
     pub(crate) fn islands(self, f: &mut impl Write) -> fmt::Result {
         // One turn for each island number in use.
-        let live = (0..self.islands_used())
+        let live = (0..self.in_use(layout::ISLANDS_USED, layout::ISLANDS))
             .filter(|&island| self.is_live(island))
             .count();
         writeln!(f, "islands {live}")?;
         // One turn for each island number in use.
-        for island in 0..self.islands_used() {
+        for island in 0..self.in_use(layout::ISLANDS_USED, layout::ISLANDS) {
             if self.is_live(island) {
                 self.island(island, f)?;
             }

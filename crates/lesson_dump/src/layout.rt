@@ -14,6 +14,7 @@ pub const JOINTS: u32 = Sizes::RIG.joints;
 pub const JOURNAL: u32 = Sizes::RIG.journal;
 
 // Words of the head.
+// Told a second time, beside table_meaning::word: so that a shift of a table shows in the dump.
 pub const SLOTS_USED: usize = 0;
 
 pub const ISLANDS_USED: usize = 1;

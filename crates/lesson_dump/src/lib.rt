@@ -7,6 +7,8 @@ mod chains;
 mod islands;
 pub mod layout;
 
+ghost use Rattle.std.specs.Prelude.{◌≤◌};
+
 use layout::Chains;
 use lesson_cells::word;
 use std::fmt;
@@ -34,6 +36,13 @@ impl Display for State<'_> {
 impl State<'_> {
     fn word(self, i: usize) -> u32 {
         word(self.0, i)
+    }
+
+    // How many entries of a table there are to look at: what this word of the head says, and no more than there is room for.
+    fn in_use(self, word: usize, capacity: u32) -> u32
+        ensures { result ≤ capacity }
+    {
+        self.word(word).min(capacity)
     }
 
     // A line: its label, and each element of a list as `item` writes it.
@@ -64,7 +73,7 @@ impl State<'_> {
     fn journal(self, f: &mut impl Write) -> fmt::Result {
         write!(f, "journal")?;
         // One turn for each entry, of which there are at most as many as there is room for.
-        for entry in 0..self.word(layout::JOURNAL_USED).min(layout::JOURNAL) {
+        for entry in 0..self.in_use(layout::JOURNAL_USED, layout::JOURNAL) {
             let [s1, g1, s2, g2] = layout::ENTRIES.row(self.0, entry);
             write!(f, " {s1}:{g1}:{s2}:{g2}")?;
         }
@@ -72,6 +81,7 @@ impl State<'_> {
     }
 
     fn pending(self, f: &mut impl Write) -> fmt::Result {
+        // A flag is a word of the head; each is read as it stands.
         if self.word(layout::IS_PENDING) == 0 {
             return writeln!(f, "pending none");
         }

@@ -43,6 +43,7 @@ fn write_bad_line(number: u64, out: &mut impl Write) -> fmt::Result {
 
 // Makes the call that a line asks for, and writes its answer.
 fn answer(t: &mut [u32], command: Command<'_>, out: &mut impl Write) -> fmt::Result {
+    // The one place that says which call a line is.
     let answer = match command {
         Command::Reset => host_calls::reset(t),
         Command::Put(h, flags) => host_calls::put(t, h, flags),

@@ -1,4 +1,6 @@
 // A script from a file: read in pieces, cut into lines, each line answered.
+ghost use Rattle.std.specs.Prelude.{◌≡◌};
+
 use crate::answer::Yard;
 use arrayvec::ArrayVec;
 use lesson_text::Output;
@@ -33,7 +35,9 @@ pub struct Script<'a, R> {
 
 impl<'a, R: Print + Eprint> Script<'a, R> {
     // A script over the tables of `yard`, which are reset, and whose list has room for LIST numbers.
-    pub fn new(rt: &'a R, yard: Yard<'a>) -> Self {
+    pub fn new(rt: &'a R, yard: Yard<'a>) -> Self
+        ensures { result.lines ≡ 0 }
+    {
         // Tables of another length refuse this, and each later call.
         let _ = host_calls::reset(yard.t);
         Script {

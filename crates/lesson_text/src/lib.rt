@@ -36,6 +36,16 @@ impl<'a, R: Print + Eprint, const ROOM: usize> Output<'a, R, ROOM> {
         self.waiting.clear();
     }
 
+    // The text waits behind what waits already.
+    pub fn text(&mut self, s: &str)
+        ensures { Added ROOM self.old.waiting.items s.now self.new.waiting.items }
+    {
+        // One turn for each byte of the text.
+        for &b in s.as_bytes() {
+            self.byte(b);
+        }
+    }
+
     // With no room at all, the byte is lost.
     fn byte(&mut self, b: u8)
         ensures { Added ROOM self.old.waiting.items (b ∷ []) self.new.waiting.items }
@@ -51,10 +61,7 @@ impl<R: Print + Eprint, const ROOM: usize> fmt::Write for Output<'_, R, ROOM> {
     ghost write_str_gives = { λ old s new. Added ROOM old.waiting.items s new.waiting.items };
 
     fn write_str(&mut self, s: &str) -> fmt::Result {
-        // One turn for each byte of the text.
-        for &b in s.as_bytes() {
-            self.byte(b);
-        }
+        self.text(s);
         Ok(())
     }
 }

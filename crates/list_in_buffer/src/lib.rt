@@ -15,6 +15,7 @@ pub struct Part {
 }
 
 // In the table p: the element e, which is in no list, is put last in the list i.
+// Each of these four is one call of its own function; ends stands beside p as in list_in_table, and is one number.
 pub fn push_in(t: &mut [u32], p: Part, ends: usize, i: u32, e: u32)
     requires { (p.at + p.long ≤ length t.old) × PushReady (part t.old p.at p.long) 0 ends i e }
     ensures { Put p.at p.long t.old t.new (pushed (part t.old p.at p.long) 0 ends i e) }

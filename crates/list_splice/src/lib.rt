@@ -22,6 +22,7 @@ pub fn splice(t: &mut [u32], base: usize, ends: usize, big: u32, small: u32)
         return;
     }
     let mut element = small_last;
+    // NONE until the first turn, of which there is one at the least.
     let mut front = NONE;
     // One turn for each element of small, from the last to the first: left is its place in small.
     for left in (0..small_count).rev() {

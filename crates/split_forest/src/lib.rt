@@ -20,6 +20,7 @@ pub fn clear(parent: &mut [u32], size: &mut [u32])
 {
     // One turn for each place: at most 4,096.
     for (i, p) in parent.iter_mut().enumerate() {
+        // Places are below 4,096, so `as` loses nothing, here and below; TryFrom would add a refusal that cannot be.
         *p = i as u32;
     }
     size.fill(1);

@@ -84,6 +84,7 @@ pub fn check_island(t: &mut [u32], z: Sizes, i: u32)
 }
 
 // split_island_now, of a live island, with a word of each slice for each of its bodies. When the labels are known, first holds the goals.
+// The slices go one by one, as in split_forest.
 pub fn split_island(
     t: &mut [u32],
     z: Sizes,

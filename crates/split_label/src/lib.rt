@@ -99,6 +99,7 @@ fn join_links(
     let mut link = table_words::last(t, z, links.chain, i);
     let mut joins = 0;
     // One turn for each link of the list: as many as the list's count, at most as many as the table has room for.
+    // Counted down: the invariant is about the links that are left.
     for _left in (0..count).rev() {
         let at = links.size * (link as usize) + links.bodies;
         if join_link(t, z, links.words, at, i, parent, size) {
@@ -128,6 +129,7 @@ pub fn label_island(
     let contact_joins = join_links(t, z, Links::CONTACTS, i, parent, size);
     split_forest::name(parent, first, labels);
     let keep = split_forest::keep(parent, size);
+    // At most 4,096.
     let bodies = parent.len() as u32;
     let components = bodies - joint_joins - contact_joins;
     Shape { components, keep }

@@ -15,6 +15,7 @@ pub fn schedule_on(t: &mut [u32], z: Sizes, i: u32) -> Answer
     requires { Sound z t.old }
     ensures { Does z (schedule_split i) t.old result t.new }
 {
+    // A flag and a number are words of the head, which C reads.
     table_words::set_all(t, z, Table::Head, word::IS_PENDING, &[1, i]);
     Ok(Outcome::Done)
 }

@@ -45,6 +45,7 @@ pub fn leave_contact(t: &mut [u32], z: Sizes, base: u32, goals: &[u32], e: u32)
 
 // The walks over the contact links, the joint links and the bodies differ in what holds at each step. One walk for all, over a closure or a trait, would take
 // that as an invariant with its start, its step and its end as laws: longer than the loop that it saves.
+// Counted down, by the words of the tables: the invariant is about the places that are left, and the list changes behind the walk.
 pub fn contacts_leave(t: &mut [u32], z: Sizes, base: u32, goals: &[u32])
     requires { Goals z base goals.now t.old }
     ensures { ContactsLeft z base goals.now t.old t.new }
@@ -65,6 +66,7 @@ pub fn contacts_leave(t: &mut [u32], z: Sizes, base: u32, goals: &[u32])
 }
 
 // The joint link at the place q of the key table leaves, is dropped, or stays.
+// Not one function with leave_contact: a joint keeps its place of the key table, and each promises it of its own list.
 pub fn leave_joint(t: &mut [u32], z: Sizes, base: u32, goals: &[u32], q: u32)
     requires { Goals z base goals.now t.old × JointIn z base q t.old }
     ensures { JointLeft z base goals.now t.old t.new q }
@@ -79,6 +81,7 @@ pub fn leave_joint(t: &mut [u32], z: Sizes, base: u32, goals: &[u32], q: u32)
     }
 }
 
+// Not one walk for the three lists: a trait would take the invariant, its start, its step and its end as laws, for eight lines.
 pub fn joints_leave(t: &mut [u32], z: Sizes, base: u32, goals: &[u32])
     requires { Goals z base goals.now t.old }
     ensures { JointsLeft z base goals.now t.old t.new }

@@ -178,6 +178,7 @@ fn is_head(t: &[u32], z: Sizes) -> bool
     requires { length t.now ≡ total z }
     ensures { Is result (HeadAt z (tables z t.now)) }
 {
+    // Flags are words of the head, which C reads.
     let is_pending = table_words::get(t, z, Table::Head, word::IS_PENDING);
     let pending = table_words::get(t, z, Table::Head, word::PENDING);
     let scan_open = table_words::get(t, z, Table::Head, word::SCAN_OPEN);
@@ -188,6 +189,7 @@ fn is_head(t: &[u32], z: Sizes) -> bool
 // ---- keys
 
 // Have the places p and q the same key?
+// The name of a definition that the promises cite.
 fn same_key(t: &[u32], z: Sizes, p: u32, q: u32) -> bool
     requires { (length t.now ≡ total z) × (p < z.joints) × (q < z.joints) }
     ensures { Is result (SameKey (tables z t.now).keys p q) }

@@ -25,8 +25,8 @@ pub enum Table {
     Fit,
 }
 
-// A joint key as its place of the key table holds it: three numbers, and which kind. A multibody's 64 bits are its high and low 32.
-// The kind, which most keys share, comes last, so that two keys are told apart by their numbers first: a hunt through a full key table takes half as long.
+// A joint key as its place of the key table holds it: three numbers, and which kind: 0 impulse, 1 chain (words that C reads). A multibody's 64 bits
+// are its high and low 32, which `as` takes out whole.
 #[derive(Clone, Copy, Debug, PartialEq, Eq)]
 pub struct KeyWords {
     pub first: u32,

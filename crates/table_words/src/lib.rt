@@ -28,6 +28,7 @@ pub fn buffer_long(z: Sizes) -> usize
 
 // Where a table begins.
 #[inline(always)]
+// The one place that says where each table begins; below, how long it is and where its lists stand.
 pub fn table_at(z: Sizes, k: Table) -> usize
     ensures { result ≡ table_at z k }
 {

@@ -40,7 +40,7 @@ enum {
     ASHWOODRUNG_WORDS = 339983   /* the length of the tables, in words */
 };
 
-/* How much stack to leave free for a call, in bytes. Measured, not proved: in tests no call took more than 66,167
+/* How much stack to leave free for a call, in bytes. Measured, not proved: in tests no call took more than 66,239
  * (damage/run.sh stack). */
 enum { ASHWOODRUNG_STACK_BYTES = 262144 };
 

@@ -2,10 +2,10 @@
 use crate::{State, layout};
 use def_kinds::NONE;
 use std::fmt;
-use std::fmt::Write;
+use std::fmt::{Formatter, Write};
 
 impl State<'_> {
-    pub(crate) fn bodies(self, f: &mut impl Write) -> fmt::Result {
+    pub(crate) fn bodies(self, f: &mut Formatter<impl Write>) -> fmt::Result {
         // One turn for each slot in use.
         for s in 0..self.in_use(layout::SLOTS_USED, layout::SLOTS) {
             self.body(s, f)?;
@@ -14,7 +14,7 @@ impl State<'_> {
     }
 
     // A slot's body, if it is live.
-    fn body(self, s: u32, f: &mut impl Write) -> fmt::Result {
+    fn body(self, s: u32, f: &mut Formatter<impl Write>) -> fmt::Result {
         let [generation, _lowest, fixed, enabled, sleeping] = layout::BODIES.row(self.0, s);
         // A word of the tables, read as it stands.
         if generation == NONE {
@@ -25,7 +25,7 @@ impl State<'_> {
         writeln!(f, " island {island} place {place}")
     }
 
-    pub(crate) fn lowest(self, f: &mut impl Write) -> fmt::Result {
+    pub(crate) fn lowest(self, f: &mut Formatter<impl Write>) -> fmt::Result {
         write!(f, "lowest")?;
         // One turn for each slot in use.
         for s in 0..self.in_use(layout::SLOTS_USED, layout::SLOTS) {

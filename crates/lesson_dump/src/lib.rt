@@ -46,9 +46,9 @@ impl State<'_> {
     }
 
     // A line: its label, and each element of a list as `item` writes it.
-    fn list<W: Write, F: Fn(&mut W, u32) -> fmt::Result>(
+    fn list<W: Write, F: Fn(&mut Formatter<W>, u32) -> fmt::Result>(
         self,
-        f: &mut W,
+        f: &mut Formatter<W>,
         label: &str,
         chains: Chains,
         list: u32,
@@ -64,13 +64,13 @@ impl State<'_> {
         writeln!(f)
     }
 
-    fn free(self, f: &mut impl Write) -> fmt::Result {
+    fn free(self, f: &mut Formatter<impl Write>) -> fmt::Result {
         self.list(f, "free", layout::FREED, 0, |f, island| {
             write!(f, " {island}")
         })
     }
 
-    fn journal(self, f: &mut impl Write) -> fmt::Result {
+    fn journal(self, f: &mut Formatter<impl Write>) -> fmt::Result {
         write!(f, "journal")?;
         // One turn for each entry, of which there are at most as many as there is room for.
         for entry in 0..self.in_use(layout::JOURNAL_USED, layout::JOURNAL) {
@@ -80,7 +80,7 @@ impl State<'_> {
         writeln!(f)
     }
 
-    fn pending(self, f: &mut impl Write) -> fmt::Result {
+    fn pending(self, f: &mut Formatter<impl Write>) -> fmt::Result {
         // A flag is a word of the head; each is read as it stands.
         if self.word(layout::IS_PENDING) == 0 {
             return writeln!(f, "pending none");
@@ -88,7 +88,7 @@ impl State<'_> {
         writeln!(f, "pending {}", self.word(layout::PENDING))
     }
 
-    fn scan(self, f: &mut impl Write) -> fmt::Result {
+    fn scan(self, f: &mut Formatter<impl Write>) -> fmt::Result {
         if self.word(layout::IS_OPEN) == 0 {
             return writeln!(f, "scan closed");
         }

@@ -57,7 +57,7 @@ impl Yard<'_> {
             Command::Run => host_calls::run(t),
             Command::Begin => host_calls::begin(t),
             Command::Observe { island, eligible } => host_calls::observe(t, island, eligible),
-            // The output that is lent is the front of the list, whose numbers of the line are read.
+            // The output that is lent is the front of the list: the line's numbers are read by now.
             Command::Finish { room } => {
                 return match self.list.get_mut(..room as usize) {
                     Some(output) => finish(t, output, out),

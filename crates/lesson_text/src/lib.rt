@@ -56,11 +56,6 @@ impl<'a, R: Print + Eprint, const ROOM: usize> Output<'a, R, ROOM> {
     pub fn bytes(&mut self, s: &[u8])
         ensures { Added ROOM self.old.waiting.items s.now self.new.waiting.items }
     {
-        // Text that has room comes in one go.
-        if s.len() <= self.waiting.remaining_capacity() {
-            let _ = self.waiting.try_extend_from_slice(s);
-            return;
-        }
         // One turn for each byte of the text.
         for &b in s {
             self.byte(b);

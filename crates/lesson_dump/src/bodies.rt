@@ -21,12 +21,14 @@ impl State<'_> {
             return Ok(());
         }
         let [island, place, ..] = layout::MEMBERS.elements.row(self.0, s);
-        write!(f, "body {s} {generation} {fixed} {enabled} {sleeping}")?;
-        writeln!(f, " island {island} place {place}")
+        writeln!(
+            f,
+            "body {s} {generation} {fixed} {enabled} {sleeping} island {island} place {place}"
+        )
     }
 
     pub(crate) fn lowest(self, f: &mut Formatter<impl Write>) -> fmt::Result {
-        write!(f, "lowest")?;
+        f.write_str("lowest")?;
         // One turn for each slot in use.
         for s in 0..self.in_use(layout::SLOTS_USED, layout::SLOTS) {
             let [_generation, lowest, ..] = layout::BODIES.row(self.0, s);
@@ -34,6 +36,6 @@ impl State<'_> {
                 write!(f, " {s}:{lowest}")?;
             }
         }
-        writeln!(f)
+        f.write_str("\n")
     }
 }

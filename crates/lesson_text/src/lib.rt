@@ -10,6 +10,9 @@ ghost use Rattle.lesson_text.specs.Added.{Added, Spelled};
 use arrayvec::ArrayVec;
 use std::fmt;
 
+// From so many bytes on, text that has room is copied in one go: fewer are sooner written one by one.
+const COPIED: usize = 8;
+
 // Text on its way to standard output. It waits in fixed memory until ROOM bytes wait there, or `flush` is called. A write never
 // fails: what standard output does not take is lost, and standard error says why.
 #[derive(Drop)]
@@ -56,6 +59,10 @@ impl<'a, R: Print + Eprint, const ROOM: usize> Output<'a, R, ROOM> {
     pub fn bytes(&mut self, s: &[u8])
         ensures { Added ROOM self.old.waiting.items s.now self.new.waiting.items }
     {
+        if s.len() >= COPIED && s.len() <= self.waiting.remaining_capacity() {
+            let _ = self.waiting.try_extend_from_slice(s);
+            return;
+        }
         // One turn for each byte of the text.
         for &b in s {
             self.byte(b);

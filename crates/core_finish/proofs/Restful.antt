@@ -5,6 +5,7 @@ use mathlib.Core.Bool.{Bool, true, false, ◌&&◌, ◌||◌, not}
 use mathlib.Core.List.{List, [], ◌∷◌, ◌++◌, map, map-append, append_assoc, append-nil}
 use Prim.Native.Nat.{ℕ, zero, suc, ◌+◌, ◌-◌, ◌*◌, ◌≤◌, ◌<◌}
 use native.Mathlib.Omega.{arith}
+use borrow.Author.Tests.{eq-eqb, ne_eqb}
 use lib.Dec.{eqb, leb}
 use lib.ListN.{length, get_or, set, drop, length-append, length-set, length-map}
 use Rattle.list_in_table.specs.Rules.{none, View, Rules, walk, list_of}
@@ -24,6 +25,10 @@ use Rattle.core_finish.proofs.Lists.{sleepables-le, sleepables-yes, sleepables-n
 -- ---- may the island i sleep, by its words
 abbrev pub words_rest : (fit bodies asleep count : ℕ) → Bool
 words_rest f c a r = flag f && (not (eqb c 0) && (not (flag a) && (eqb r 0 || leb c 1)))
+
+-- of a live island that is awake and always eligible, with count 0, they say that it may
+pub rest-whole : (f c a r : ℕ) → f ≡ 1 → c ≢ 0 → a ≢ 1 → r ≡ 0 → words_rest f c a r ≡ true
+rest-whole f c a r p q s u = rw (eq-eqb f 1 p, ne_eqb c 0 q, ne_eqb a 1 s, eq-eqb r 0 u)
 
 module _ {Z : Sizes} {t : List ℕ} (i : ℕ) (S : Sound Z t) (il : i < (extents (tables Z t)).islands) where
   abbrev T : Tables

@@ -26,8 +26,13 @@ fn is_keyed(t: &[u32], z: Sizes, p: u32, key: KeyWords) -> bool
     requires { (length t.now ≡ total z) × (p < z.joints) }
     ensures { Is result (LinkedAs z (tables z t.now) key.kind key.first key.second key.third p) }
 {
+    let at = word::KEY * (p as usize);
+    // Most keys differ in the first word or the third, so these are asked first.
     // The home is a word of the tables, where NONE is no list.
-    table_words::key_at(t, z, p) == key && table_words::home(t, z, Table::Joints, p) != NONE
+    table_words::get(t, z, Table::Keys, at + word::KEY_FIRST) == key.first
+        && table_words::get(t, z, Table::Keys, at + word::KEY_THIRD) == key.third
+        && table_words::key_at(t, z, p) == key
+        && table_words::home(t, z, Table::Joints, p) != NONE
 }
 
 // The linked place with these words for its key, if there is one.

@@ -12,21 +12,20 @@ use std::rt::Env;
 // The system's number for a name that is too long (ENAMETOOLONG).
 const NAME_TOO_LONG: i32 = 36;
 
-const HELP: &str =
-    "lesson [FILE]   run the lesson script in FILE, or the one on standard input, and write its answers
-lesson --help   write this
-
-A script has a call on each line; # starts a comment. A handle is its slot and its generation, S G; a flag is 0 or 1.
-  reset   dump   resolve   run   begin   finish [ROOM]
-  put S G FIXED ENABLED SLEEPING   flags S G FIXED ENABLED SLEEPING   retire S G   island S G   ensure S G   remove S G
-  contact EDGE S G S G   uncontact EDGE   renumber REMOVED LAST
-  joint i INDEX GENERATION S G S G   joint c MULTIBODY ORDINAL S G S G
-  unjoint i INDEX GENERATION   unjoint c MULTIBODY ORDINAL   chain MULTIBODY N S G .. S G
-  split ISLAND   schedule ISLAND   maybid ISLAND   observe ISLAND ELIGIBLE   sleep ISLAND   wake ISLAND
-Answers: 0 done, 1 nothing to do; refused: 2 over its size, 3 still linked, 4 joints full, 5 journal full, 6 no such island,
-7 no scan open, 8 output too short, 9 tables not well formed, 10 slot taken, 11 generation not allowed.
-docs/LESSON-FORMAT.md has the whole form, docs/DEMOS.md explains the lessons in demos/.
-";
+const HELP: [&str; 12] = [
+    "lesson [FILE]   run the lesson script in FILE, or the one on standard input, and write its answers\n",
+    "lesson --help   write this\n\n",
+    "A script has a call on each line; # starts a comment. A handle is its slot and its generation, S G; a flag is 0 or 1.\n",
+    "  reset   dump   resolve   run   begin   finish [ROOM]\n",
+    "  put S G FIXED ENABLED SLEEPING   flags S G FIXED ENABLED SLEEPING   retire S G   island S G   ensure S G   remove S G\n",
+    "  contact EDGE S G S G   uncontact EDGE   renumber REMOVED LAST\n",
+    "  joint i INDEX GENERATION S G S G   joint c MULTIBODY ORDINAL S G S G\n",
+    "  unjoint i INDEX GENERATION   unjoint c MULTIBODY ORDINAL   chain MULTIBODY N S G .. S G\n",
+    "  split ISLAND   schedule ISLAND   maybid ISLAND   observe ISLAND ELIGIBLE   sleep ISLAND   wake ISLAND\n",
+    "Answers: 0 done, 1 nothing to do; refused: 2 over its size, 3 still linked, 4 joints full, 5 journal full, 6 no such island,\n",
+    "7 no scan open, 8 output too short, 9 tables not well formed, 10 slot taken, 11 generation not allowed.\n",
+    "docs/LESSON-FORMAT.md has the whole form, docs/DEMOS.md explains the lessons in demos/.\n",
+];
 
 fn run(rt: &HostRuntime, input: &mut impl Read, name: &[u8]) {
     let mut t = [0u32; TOTAL];
@@ -66,7 +65,10 @@ fn main(rt: HostRuntime) {
     };
     match &path[..length] {
         b"--help" => {
-            let _ = print!(rt; "{HELP}");
+            // One turn for each line. Each is written for itself: one that is not taken keeps no other back.
+            for line in HELP {
+                let _ = rt.write_all(line.as_bytes());
+            }
         }
         name => match open(&rt, name) {
             Ok(mut file) => run(&rt, &mut file, name),

@@ -9,7 +9,7 @@ ghost use Rattle.std.specs.Prelude.{◌≡◌, length, get_or};
 use def_kinds::{Edge, Flags, Handle, Island, JointKey, Slot};
 use plain::plain_command;
 use std::str::Split;
-use words::{read_numbers, read_small, read_wide};
+use words::{read_numbers, read_small, read_wide, words_of};
 
 // How long the output that `finish` lends is where the script does not say, and at most.
 pub const ROOM: u32 = 4096;
@@ -59,7 +59,7 @@ pub fn parse<'a>(line: &[u8], list: &'a mut [u32]) -> Result<Option<Command<'a>>
         return Ok(None);
     }
     let text = std::str::from_utf8(line).map_err(|_| BadLine)?;
-    let mut words = text.split(' ');
+    let mut words = words_of(text);
     let command = match words.next() {
         Some("joint") => joint(words, list)?,
         Some("unjoint") => unjoint(words)?,

@@ -11,6 +11,7 @@ pub fn plain_command<'a>(name: &str, numbers: &[u32]) -> Result<Command<'a>, Bad
         ("island", &[s, g]) => Command::Island(handle(s, g)),
         ("ensure", &[s, g]) => Command::Ensure(handle(s, g)),
         ("remove", &[s, g]) => Command::Remove(handle(s, g)),
+        ("dump", []) => Command::Dump,
         ("contact", &[e, s1, g1, s2, g2]) => {
             Command::Contact(Edge(e), handle(s1, g1), handle(s2, g2))
         }
@@ -33,7 +34,6 @@ pub fn plain_command<'a>(name: &str, numbers: &[u32]) -> Result<Command<'a>, Bad
         ("finish", &[room]) if room <= ROOM => Command::Finish { room },
         ("sleep", &[i]) => Command::Sleep(Island(i)),
         ("wake", &[i]) => Command::Wake(Island(i)),
-        ("dump", []) => Command::Dump,
         _ => return Err(BadLine),
     })
 }

@@ -1,7 +1,18 @@
-// The words of a line as numbers. One blank stands between two words.
+// The words of a line, and these as numbers. One blank stands between two words.
+ghost use Rattle.std.specs.Prelude.{◌≡◌, true};
+ghost use Rattle.std.specs.Str.Iter.{split_has_more, split_pattern, split_text};
+
 use crate::BadLine;
 use lesson_text::digits::value_of;
 use std::str::Split;
+
+// The words of a line, all that stands between its blanks: 32 is the blank.
+pub fn words_of(line: &str) -> Split<'_, char>
+    ensures whole { (split_text result ≡ line.now) × (split_has_more result ≡ true) }
+    ensures at_blanks { split_pattern result ≡ 32 }
+{
+    line.split(' ')
+}
 
 // A number of 64 bits.
 pub fn read_wide(word: Option<&str>) -> Result<u64, BadLine> {

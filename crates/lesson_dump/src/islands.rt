@@ -3,14 +3,14 @@ ghost use Rattle.std.specs.Prelude.{◌≡◌, ◌+◌, ◌*◌};
 
 use crate::{State, layout};
 use std::fmt;
-use std::fmt::Write;
+use std::fmt::{Formatter, Write};
 
 impl State<'_> {
     fn is_live(self, island: u32) -> bool {
         self.count(layout::MEMBERS, island) != 0
     }
 
-    pub(crate) fn islands(self, f: &mut impl Write) -> fmt::Result {
+    pub(crate) fn islands(self, f: &mut Formatter<impl Write>) -> fmt::Result {
         // One turn for each island number in use.
         let live = (0..self.in_use(layout::ISLANDS_USED, layout::ISLANDS))
             .filter(|&island| self.is_live(island))
@@ -26,7 +26,7 @@ impl State<'_> {
     }
 
     // An island and its three lists.
-    fn island(self, island: u32, f: &mut impl Write) -> fmt::Result {
+    fn island(self, island: u32, f: &mut Formatter<impl Write>) -> fmt::Result {
         let [count, denied, sleeping] = layout::ROWS.row(self.0, island);
         writeln!(
             f,
@@ -45,7 +45,7 @@ impl State<'_> {
         })
     }
 
-    fn joint(self, place: u32, f: &mut impl Write) -> fmt::Result {
+    fn joint(self, place: u32, f: &mut Formatter<impl Write>) -> fmt::Result {
         let [kind, a, b, c, s1, g1, s2, g2] = layout::KEYS.row(self.0, place);
         if kind == 0 {
             write!(f, " i:{a}:{b}")?;

@@ -29,7 +29,7 @@ impl Display for State<'_> {
         self.scan(f)?;
         self.bodies(f)?;
         self.lowest(f)?;
-        writeln!(f, "end")
+        f.write_str("end\n")
     }
 }
 
@@ -46,9 +46,9 @@ impl State<'_> {
     }
 
     // A line: its label, and each element of a list as `item` writes it.
-    fn list<W: Write, F: Fn(&mut W, u32) -> fmt::Result>(
+    fn list<W: Write, F: Fn(&mut Formatter<W>, u32) -> fmt::Result>(
         self,
-        f: &mut W,
+        f: &mut Formatter<W>,
         label: &str,
         chains: Chains,
         list: u32,
@@ -56,41 +56,41 @@ impl State<'_> {
     ) -> fmt::Result
         requires { F.IsAlwaysCallable item }
     {
-        write!(f, "{label}")?;
+        f.write_str(label)?;
         // One turn for each element: at most as many as the capacity.
         for e in self.chain(chains, list) {
             item(f, e)?;
         }
-        writeln!(f)
+        f.write_str("\n")
     }
 
-    fn free(self, f: &mut impl Write) -> fmt::Result {
+    fn free(self, f: &mut Formatter<impl Write>) -> fmt::Result {
         self.list(f, "free", layout::FREED, 0, |f, island| {
             write!(f, " {island}")
         })
     }
 
-    fn journal(self, f: &mut impl Write) -> fmt::Result {
-        write!(f, "journal")?;
+    fn journal(self, f: &mut Formatter<impl Write>) -> fmt::Result {
+        f.write_str("journal")?;
         // One turn for each entry, of which there are at most as many as there is room for.
         for entry in 0..self.in_use(layout::JOURNAL_USED, layout::JOURNAL) {
             let [s1, g1, s2, g2] = layout::ENTRIES.row(self.0, entry);
             write!(f, " {s1}:{g1}:{s2}:{g2}")?;
         }
-        writeln!(f)
+        f.write_str("\n")
     }
 
-    fn pending(self, f: &mut impl Write) -> fmt::Result {
+    fn pending(self, f: &mut Formatter<impl Write>) -> fmt::Result {
         // A flag is a word of the head; each is read as it stands.
         if self.word(layout::IS_PENDING) == 0 {
-            return writeln!(f, "pending none");
+            return f.write_str("pending none\n");
         }
         writeln!(f, "pending {}", self.word(layout::PENDING))
     }
 
-    fn scan(self, f: &mut impl Write) -> fmt::Result {
+    fn scan(self, f: &mut Formatter<impl Write>) -> fmt::Result {
         if self.word(layout::IS_OPEN) == 0 {
-            return writeln!(f, "scan closed");
+            return f.write_str("scan closed\n");
         }
         self.list(f, "scan open", layout::SEEN, 0, |f, island| {
             let [fit] = layout::FIT.row(self.0, island);

@@ -4,11 +4,14 @@
 pub mod digits;
 pub mod reason;
 
-ghost use Rattle.std.specs.Prelude.{◌≡◌, [], ◌∷◌};
-ghost use Rattle.lesson_text.specs.Added.{Added};
+ghost use Rattle.std.specs.Prelude.{◌≡◌, [], ◌∷◌, IsOk};
+ghost use Rattle.lesson_text.specs.Added.{Added, Spelled};
 
 use arrayvec::ArrayVec;
 use std::fmt;
+
+// From so many bytes on, text that has room is copied in one go: fewer are sooner written one by one.
+const COPIED: usize = 8;
 
 // Text on its way to standard output. It waits in fixed memory until ROOM bytes wait there, or `flush` is called. A write never
 // fails: what standard output does not take is lost, and standard error says why.
@@ -40,8 +43,28 @@ impl<'a, R: Print + Eprint, const ROOM: usize> Output<'a, R, ROOM> {
     pub fn text(&mut self, s: &str)
         ensures { Added ROOM self.old.waiting.items s.now self.new.waiting.items }
     {
+        self.bytes(s.as_bytes());
+    }
+
+    // The decimal digits of `n` wait behind what waits already.
+    // Beside `write!`, which gives a result: std promises no success of it, and this cannot fail.
+    pub fn number(&mut self, n: u64)
+        ensures { Spelled ROOM self.old.waiting.items n self.new.waiting.items }
+    {
+        let mut digits = [0; 20];
+        let k = io::decimal(n, &mut digits);
+        self.bytes(&digits[..k]);
+    }
+
+    pub fn bytes(&mut self, s: &[u8])
+        ensures { Added ROOM self.old.waiting.items s.now self.new.waiting.items }
+    {
+        if s.len() >= COPIED && s.len() <= self.waiting.remaining_capacity() {
+            let _ = self.waiting.try_extend_from_slice(s);
+            return;
+        }
         // One turn for each byte of the text.
-        for &b in s.as_bytes() {
+        for &b in s {
             self.byte(b);
         }
     }
@@ -60,7 +83,10 @@ impl<'a, R: Print + Eprint, const ROOM: usize> Output<'a, R, ROOM> {
 impl<R: Print + Eprint, const ROOM: usize> fmt::Write for Output<'_, R, ROOM> {
     ghost write_str_gives = { λ old s new. Added ROOM old.waiting.items s new.waiting.items };
 
-    fn write_str(&mut self, s: &str) -> fmt::Result {
+    fn write_str(&mut self, s: &str) -> fmt::Result
+        ensures ok { IsOk result → Added ROOM self.old.waiting.items s.now self.new.waiting.items }
+        ensures never_fails { IsOk result }
+    {
         self.text(s);
         Ok(())
     }

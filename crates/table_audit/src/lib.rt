@@ -202,7 +202,8 @@ fn is_other(t: &[u32], z: Sizes, p: u32, q: u32) -> bool
     requires { (length t.now ≡ total z) × (p < z.joints) × (q < z.joints) }
     ensures { Is result (Other (joints_in z (tables z t.now)).home (tables z t.now).keys p q) }
 {
-    table_words::home(t, z, Table::Joints, q) == NONE || !same_key(t, z, p, q)
+    // The keys first: nearly all differ, and the words of p are read once for all q then.
+    !same_key(t, z, p, q) || table_words::home(t, z, Table::Joints, q) == NONE
 }
 
 // Is the place p not linked, or its key that of no linked place below it? One turn for each joint place below p.

@@ -11,6 +11,7 @@ ghost use Rattle.std.specs.Prelude.{◌≤◌};
 
 use layout::Chains;
 use lesson_cells::word;
+use lesson_text::Text;
 use std::fmt;
 use std::fmt::{Display, Formatter, Write};
 
@@ -20,20 +21,42 @@ pub struct State<'a>(pub &'a [u32]);
 
 impl Display for State<'_> {
     fn fmt<W: Write>(&self, f: &mut Formatter<W>) -> fmt::Result {
+        self.write(f)
+    }
+}
+
+// A number behind a text.
+fn labelled(f: &mut impl Text, label: &str, n: u32) -> fmt::Result {
+    f.write_str(label)?;
+    f.digits(u64::from(n))
+}
+
+// Numbers, each behind a colon.
+fn parts(f: &mut impl Text, numbers: &[u32]) -> fmt::Result {
+    // One turn for each number.
+    for &n in numbers {
+        labelled(f, ":", n)?;
+    }
+    Ok(())
+}
+
+impl State<'_> {
+    // The dump, written straight to where it goes: a formatter in between takes longer.
+    pub fn write(self, f: &mut impl Text) -> fmt::Result {
         self.islands(f)?;
         self.free(f)?;
-        writeln!(f, "tracked {}", self.word(layout::TRACKED))?;
+        labelled(f, "tracked ", self.word(layout::TRACKED))?;
+        f.write_str("\n")?;
         self.journal(f)?;
         self.pending(f)?;
-        writeln!(f, "stamp {}", self.word(layout::STAMP))?;
+        labelled(f, "stamp ", self.word(layout::STAMP))?;
+        f.write_str("\n")?;
         self.scan(f)?;
         self.bodies(f)?;
         self.lowest(f)?;
         f.write_str("end\n")
     }
-}
 
-impl State<'_> {
     fn word(self, i: usize) -> u32 {
         word(self.0, i)
     }
@@ -46,9 +69,9 @@ impl State<'_> {
     }
 
     // A line: its label, and each element of a list as `item` writes it.
-    fn list<W: Write, F: Fn(&mut Formatter<W>, u32) -> fmt::Result>(
+    fn list<W: Text, F: Fn(&mut W, u32) -> fmt::Result>(
         self,
-        f: &mut Formatter<W>,
+        f: &mut W,
         label: &str,
         chains: Chains,
         list: u32,
@@ -64,37 +87,40 @@ impl State<'_> {
         f.write_str("\n")
     }
 
-    fn free(self, f: &mut Formatter<impl Write>) -> fmt::Result {
+    fn free(self, f: &mut impl Text) -> fmt::Result {
         self.list(f, "free", layout::FREED, 0, |f, island| {
-            write!(f, " {island}")
+            labelled(f, " ", island)
         })
     }
 
-    fn journal(self, f: &mut Formatter<impl Write>) -> fmt::Result {
+    fn journal(self, f: &mut impl Text) -> fmt::Result {
         f.write_str("journal")?;
         // One turn for each entry, of which there are at most as many as there is room for.
         for entry in 0..self.in_use(layout::JOURNAL_USED, layout::JOURNAL) {
             let [s1, g1, s2, g2] = layout::ENTRIES.row(self.0, entry);
-            write!(f, " {s1}:{g1}:{s2}:{g2}")?;
+            labelled(f, " ", s1)?;
+            parts(f, &[g1, s2, g2])?;
         }
         f.write_str("\n")
     }
 
-    fn pending(self, f: &mut Formatter<impl Write>) -> fmt::Result {
+    fn pending(self, f: &mut impl Text) -> fmt::Result {
         // A flag is a word of the head; each is read as it stands.
         if self.word(layout::IS_PENDING) == 0 {
             return f.write_str("pending none\n");
         }
-        writeln!(f, "pending {}", self.word(layout::PENDING))
+        labelled(f, "pending ", self.word(layout::PENDING))?;
+        f.write_str("\n")
     }
 
-    fn scan(self, f: &mut Formatter<impl Write>) -> fmt::Result {
+    fn scan(self, f: &mut impl Text) -> fmt::Result {
         if self.word(layout::IS_OPEN) == 0 {
             return f.write_str("scan closed\n");
         }
         self.list(f, "scan open", layout::SEEN, 0, |f, island| {
             let [fit] = layout::FIT.row(self.0, island);
-            write!(f, " {island}:{fit}")
+            labelled(f, " ", island)?;
+            parts(f, &[fit])
         })
     }
 }

@@ -3,7 +3,7 @@ use crate::read::LONGEST_LINE;
 use def_kinds::{Island, NONE, Refusal};
 use lesson_command::{BadLine, Command, parse};
 use lesson_dump::State;
-use lesson_text::Output;
+use lesson_text::{Output, Text};
 use std::fmt;
 use std::fmt::Write;
 
@@ -25,7 +25,7 @@ impl Yard<'_> {
         let _ = self.write_answer(line, number, out);
     }
 
-    fn write_answer(&mut self, line: &[u8], number: u64, out: &mut impl Write) -> fmt::Result {
+    fn write_answer(&mut self, line: &[u8], number: u64, out: &mut impl Text) -> fmt::Result {
         if line.len() > LONGEST_LINE {
             return write_bad_line(number, out);
         }
@@ -66,14 +66,16 @@ impl Yard<'_> {
             }
             Command::Sleep(island) => host_calls::sleep(t, island),
             Command::Wake(island) => host_calls::wake(t, island),
-            Command::Dump => return write!(out, "{}", State(t)),
+            Command::Dump => return State(t).write(out),
         };
         writeln!(out, "{}", def_kinds::number(answer))
     }
 }
 
-fn write_bad_line(number: u64, out: &mut impl Write) -> fmt::Result {
-    writeln!(out, "bad line {number}")
+fn write_bad_line(number: u64, out: &mut impl Text) -> fmt::Result {
+    out.write_str("bad line ")?;
+    out.digits(number)?;
+    out.write_str("\n")
 }
 
 // The number of a question's answer, which is 0 where it is not refused, and the body's island or NONE.

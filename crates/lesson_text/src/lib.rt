@@ -92,6 +92,28 @@ impl<R: Print + Eprint, const ROOM: usize> fmt::Write for Output<'_, R, ROOM> {
     }
 }
 
+// What takes text, and numbers as text: an `Output` without a formatter, which has no promise to succeed.
+pub trait Text: fmt::Write {
+    // The decimal digits of `n`.
+    fn digits(&mut self, n: u64) -> fmt::Result;
+}
+
+impl<R: Print + Eprint, const ROOM: usize> Text for Output<'_, R, ROOM> {
+    fn digits(&mut self, n: u64) -> fmt::Result
+        ensures spelled { Spelled ROOM self.old.waiting.items n self.new.waiting.items }
+        ensures never_fails { IsOk result }
+    {
+        self.number(n);
+        Ok(())
+    }
+}
+
+impl<W: fmt::Write> Text for fmt::Formatter<W> {
+    fn digits(&mut self, n: u64) -> fmt::Result {
+        write!(self, "{n}")
+    }
+}
+
 fn write(rt: &(impl Print + Eprint), bytes: &[u8]) {
     if let Err(error) = rt.write_all(bytes) {
         let mut room = [0u8; reason::LONGEST];

@@ -26,12 +26,15 @@ impl Display for State<'_> {
 }
 
 // A number behind a text.
+#[inline(always)]
+// Put in place, where the text's length is known.
 fn labelled(f: &mut impl Text, label: &str, n: u32) -> fmt::Result {
     f.write_str(label)?;
     f.digits(u64::from(n))
 }
 
 // Numbers, each behind a colon.
+#[inline(always)]
 fn parts(f: &mut impl Text, numbers: &[u32]) -> fmt::Result {
     // One turn for each number.
     for &n in numbers {
